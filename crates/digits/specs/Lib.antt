@@ -1,0 +1,4 @@
+pub mod Bytes
+pub mod LittleEndian
+pub mod Hex
+pub mod Stores

@@ -1,0 +1,29 @@
+-- Stores into a lent buffer, and what every writer promises of it.
+use mathlib.Core.Bool.{cond}
+use mathlib.Core.Path.{_≡_}
+use mathlib.Core.List.{List}
+use Prim.Native.Nat.{ℕ}
+use lib.Dec.{eqb, leb}
+use lib.ListN.{length}
+use lib.Seq.{sets}
+use Rattle.digits.specs.declared.Written.{Written}
+
+-- the buffer with the bytes laid over it from offset at on; all others stay
+unfoldable pub stored : List ℕ → ℕ → List ℕ → List ℕ
+stored out at bytes = sets out at bytes
+
+-- the answer of a writer whose values are refused with this number (0: not refused), and 51 where the output is too short (paper 01, "Refusal numbers")
+abbrev pub writerAnswer : ℕ → List ℕ → List ℕ → Written
+writerAnswer refusal bytes out =
+    cond (eqb refusal 0)
+    (cond (leb (length bytes) (length out)) (record { refusal = 0; size = length bytes }) (record { refusal = 51; size = 0 }))
+    (record { refusal = refusal; size = 0 })
+
+-- what is in the buffer at exit: a refusal writes nothing, else exactly the produced bytes changed (paper 01, "Refusal numbers")
+abbrev pub writerLeaves : ℕ → List ℕ → List ℕ → List ℕ
+writerLeaves refusal bytes out = cond (eqb refusal 0) (cond (leb (length bytes) (length out)) (stored out 0 bytes) out) out
+
+-- the promise of every writer: its answer and the buffer at exit
+pub record Writes (refusal : ℕ) (bytes out : List ℕ) (r : Written) (after : List ℕ) : Type 0 where
+  pub answers : r ≡ writerAnswer refusal bytes out
+  pub leaves : after ≡ writerLeaves refusal bytes out

@@ -1,0 +1,35 @@
+-- The nearest whole number to a fraction, and the rule at exact halves (paper 01, "Numbers").
+-- A value is given as its sign and the magnitude n / d, with d not 0; all comparisons are over whole numbers.
+use mathlib.Core.Bool.{Bool, true, false}
+use mathlib.Core.Path.{_≡_}
+use Prim.Native.Nat.{ℕ, _+_, _-_, _*_, _/_, _≤_}
+use lib.IntN.{ℤ, pos, negℤ, natAbs, _-ℤ_, _*ℤ_}
+
+-- how far two whole numbers are apart
+abbrev pub distance : ℕ → ℕ → ℕ
+distance a b = (a - b) + (b - a)
+
+-- the whole number of this sign and magnitude; both signs of 0 give 0
+abbrev pub signed : Bool → ℕ → ℤ
+signed true m = negℤ (pos m)
+signed false m = pos m
+
+-- d times the distance between the whole number z and the value
+abbrev pub gap : Bool → ℕ → ℕ → ℤ → ℕ
+gap negative n d z = natAbs (pos d *ℤ z -ℤ signed negative n)
+
+-- no whole number is closer to the value than z (paper 01, "Numbers": "nearest")
+unfoldable pub Nearest : Bool → ℕ → ℕ → ℤ → Type 0
+Nearest negative n d z = (y : ℤ) → gap negative n d z ≤ gap negative n d y
+
+-- the value lies exactly between two whole numbers
+unfoldable pub Half : ℕ → ℕ → Type 0
+Half n d = (m : ℕ) × (2 * n ≡ d * (2 * m + 1))
+
+-- the rule at exact halves: of all nearest numbers z is the one away from zero (paper 01, "Numbers")
+unfoldable pub AwayFromZero : Bool → ℕ → ℕ → ℤ → Type 0
+AwayFromZero negative n d z = (y : ℤ) → Nearest negative n d y → natAbs y ≤ natAbs z
+
+-- the magnitude of the nearest whole number, halves away from zero
+unfoldable pub nearest : ℕ → ℕ → ℕ
+nearest n d = (2 * n + d) / (2 * d)
