@@ -1,0 +1,4 @@
+pub mod Rounding
+pub mod Theorems
+pub mod Edges
+pub mod Machine
