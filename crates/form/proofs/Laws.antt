@@ -259,3 +259,102 @@ module _ (r : ℕ) (ms : List ℕ) (i at : ℕ) (bs : List ℕ) where
   pub marker-over : length ms ≤ i → Whole 0 at ≡ judgeAt (marker r (drop i ms)) at bs
   unfolding judge marker
   marker-over h = rw (drop-of-length-le ms {i = i} h)
+
+-- -- Back from a whole piece
+
+-- two whole pieces
+pub seq-inverse : (p : Form) (h : ℕ → Form) (at : ℕ) (bs : List ℕ) (v e : ℕ) → judgeAt (p >>= h) at bs ≡ Whole v e
+    → (u : ℕ) × (d : ℕ) × (judgeAt p at bs ≡ Whole u d) × (judgeAt (h u) d bs ≡ Whole v e)
+seq-inverse p h at bs v e w = go (judgeAt p at bs) refl (sym (seq p h at bs) ∙ w)
+  where
+    go : (j : Judgement) → judgeAt p at bs ≡ j → after j (λ v e. judgeAt (h v) e bs) ≡ Whole v e → (u : ℕ) × (d : ℕ) × (judgeAt p at bs ≡ Whole u d) × (judgeAt (h u) d bs ≡ Whole v e)
+    go (Whole u d) a b = (u, d, a, b)
+    go (Bad r) a b = let z : _≡_ {A = ℕ} 0 1 = cc in absurd (omega arith)
+    go Waiting a b = let z : _≡_ {A = ℕ} 0 1 = cc in absurd (omega arith)
+
+-- a four-byte field: its bytes are there, its number passes
+pub four-inverse : (r : ℕ) (t : ℕ → Bool) (at : ℕ) (bs : List ℕ) (v e : ℕ) → judgeAt (four r t) at bs ≡ Whole v e
+    → (v ≡ littleAt 4 at bs) × (e ≡ at + 4) × (t v ≡ true) × (at + 4 ≤ length bs)
+unfolding judge
+four-inverse r t at bs v e w = go (decLe (at + 4) (length bs))
+  where
+    passed : (u : Bool) → t (littleAt 4 at bs) ≡ u → cond u (Whole (littleAt 4 at bs) (at + 4)) (Bad r) ≡ Whole v e → (v ≡ littleAt 4 at bs) × (e ≡ at + 4) × (t v ≡ true)
+    passed true a b = let x : v ≡ littleAt 4 at bs = cc in (x, cc, ap t x ∙ a)
+    passed false a b = let z : _≡_ {A = ℕ} 0 1 = cc in absurd (omega arith)
+
+    go : Dec (at + 4 ≤ length bs) → (v ≡ littleAt 4 at bs) × (e ≡ at + 4) × (t v ≡ true) × (at + 4 ≤ length bs)
+    go (yes l) = let g = passed (t (littleAt 4 at bs)) refl (sym (word-step r t whole at bs l) ∙ w) in (g .0, g .1, g .2, l)
+    go (no n) = let h : Waiting ≡ Whole v e = four-waits r t at bs (omega arith) ∙ w in let z : _≡_ {A = ℕ} 0 1 = cc in absurd (omega arith)
+
+-- n free bytes: they are there, unless n is 0
+pub free-inverse : (n at : ℕ) (bs : List ℕ) (v e : ℕ) → judgeAt (free n) at bs ≡ Whole v e → (v ≡ 0) × (e ≡ at + n) × (at ≤ length bs → at + n ≤ length bs)
+unfolding judge free
+free-inverse zero at bs v e w = (cc, omega (arith, same), λ h. omega arith)
+  where
+    same : at ≡ e
+    same = cc
+free-inverse (suc n) at bs v e w = go (decLe (at + suc n) (length bs))
+  where
+    go : Dec (at + suc n ≤ length bs) → (v ≡ 0) × (e ≡ at + suc n) × (at ≤ length bs → at + suc n ≤ length bs)
+    go (yes l) = let h : Whole 0 (at + suc n) ≡ Whole v e = free-whole (suc n) at bs l ∙ w in (cc, cc, λ _. l)
+    go (no m) = let h : Waiting ≡ Whole v e = free-waits (suc n) at bs (omega arith) (omega arith) ∙ w in let z : _≡_ {A = ℕ} 0 1 = cc in absurd (omega arith)
+
+-- n free four-byte fields: they are there, unless n is 0
+pub frees-inverse : (n at : ℕ) (bs : List ℕ) (v e : ℕ) → judgeAt (frees n) at bs ≡ Whole v e → (v ≡ 0) × (e ≡ at + 4 * n) × (at ≤ length bs → at + 4 * n ≤ length bs)
+frees-inverse n at bs v e w = free-inverse (4 * n) at bs v e (sym (frees-free n at (drop at bs)) ∙ w)
+
+marker-read : (r : ℕ) (ms : List ℕ) (at : ℕ) (xs : List ℕ) (v e : ℕ) → judge (marker r ms) at xs ≡ Whole v e → (v ≡ 0) × (e ≡ at + length ms) × (take (length ms) xs ≡ ms) × (length ms ≤ length xs)
+unfolding judge marker
+marker-read r [] at xs v e w = (cc, omega (arith, same), refl, omega arith)
+  where
+    same : at ≡ e
+    same = cc
+marker-read r (m ∷ ms) at [] v e w = let z : _≡_ {A = ℕ} 0 1 = cc in absurd (omega arith)
+marker-read r (m ∷ ms) at (b ∷ xs) v e w = go (eqb b m) refl w (marker-read r ms (at + 1) xs v e)
+  where
+    go : (u : Bool) → eqb b m ≡ u → cond u (judge (marker r ms) (at + 1) xs) (Bad r) ≡ Whole v e
+        → (judge (marker r ms) (at + 1) xs ≡ Whole v e → (v ≡ 0) × (e ≡ at + 1 + length ms) × (take (length ms) xs ≡ ms) × (length ms ≤ length xs))
+        → (v ≡ 0) × (e ≡ at + suc (length ms)) × (b ∷ take (length ms) xs ≡ m ∷ ms) × (suc (length ms) ≤ suc (length xs))
+    go true a j s = let g = s j in let x = eqb-true b m a in let l = g .2 in (g .0, omega (arith, g .1), cc, omega (arith, g .3))
+    go false a j s = let z : _≡_ {A = ℕ} 0 1 = cc in absurd (omega arith)
+
+-- the given bytes: they are there
+pub marker-inverse : (r : ℕ) (ms : List ℕ) (at : ℕ) (bs : List ℕ) (v e : ℕ) → judgeAt (marker r ms) at bs ≡ Whole v e
+    → (v ≡ 0) × (e ≡ at + length ms) × (take (length ms) (drop at bs) ≡ ms) × (length ms ≤ length (drop at bs))
+marker-inverse r ms at bs v e w = marker-read r ms at (drop at bs) v e w
+
+marker-met : (r : ℕ) (ms : List ℕ) (at : ℕ) (xs : List ℕ) → take (length ms) xs ≡ ms → Whole 0 (at + length ms) ≡ judge (marker r ms) at xs
+unfolding judge marker
+marker-met r [] at xs h = ap (Whole 0) (omega arith)
+marker-met r (m ∷ ms) at [] h = let z : _≡_ {A = ℕ} 0 1 = cc in absurd (omega arith)
+marker-met r (m ∷ ms) at (b ∷ xs) h = ap (Whole 0) (omega arith) ∙ marker-met r ms (at + 1) xs (cc) ∙ rw (eq-eqb b m (cc))
+
+-- the given bytes, where they are there
+pub marker-whole : (r : ℕ) (ms : List ℕ) (at : ℕ) (bs : List ℕ) → take (length ms) (drop at bs) ≡ ms → Whole 0 (at + length ms) ≡ judgeAt (marker r ms) at bs
+marker-whole r ms at bs h = marker-met r ms at (drop at bs) h
+
+-- -- The judgement and the offset it starts from
+
+-- a judgement whose end lies d further on
+abbrev pub moved : ℕ → Judgement → Judgement
+moved d (Whole k e) = Whole k (d + e)
+moved d (Bad r) = Bad r
+moved d Waiting = Waiting
+
+moved-cond : (t : Bool) (d r : ℕ) (x y : Judgement) → y ≡ moved d x → cond t y (Bad r) ≡ moved d (cond t x (Bad r))
+moved-cond true d r x y e = e
+moved-cond false d r x y e = refl
+
+-- the offset only moves the end
+pub judge-moved : (p : Form) (d at : ℕ) (xs : List ℕ) → judge p (d + at) xs ≡ moved d (judge p at xs)
+unfolding judge
+judge-moved (whole v) d at xs = refl
+judge-moved (byte r t f) d at [] = refl
+judge-moved (byte r t f) d at (b ∷ xs) = moved-cond (t b) d r (judge (f b) (at + 1) xs) (judge (f b) (d + at + 1) xs) (ap (λ (i : ℕ). judge (f b) i xs) (omega arith) ∙ judge-moved (f b) d (at + 1) xs)
+judge-moved (word r t f) d at [] = refl
+judge-moved (word r t f) d at (a ∷ []) = refl
+judge-moved (word r t f) d at (a ∷ b ∷ []) = refl
+judge-moved (word r t f) d at (a ∷ b ∷ c ∷ []) = refl
+judge-moved (word r t f) d at (a ∷ b ∷ c ∷ e ∷ xs) =
+    moved-cond (t (fromLittle (a ∷ b ∷ c ∷ e ∷ []))) d r (judge (f (fromLittle (a ∷ b ∷ c ∷ e ∷ []))) (at + 4) xs) (judge (f (fromLittle (a ∷ b ∷ c ∷ e ∷ []))) (d + at + 4) xs)
+    (ap (λ (i : ℕ). judge (f (fromLittle (a ∷ b ∷ c ∷ e ∷ []))) i xs) (omega arith) ∙ judge-moved (f (fromLittle (a ∷ b ∷ c ∷ e ∷ []))) d (at + 4) xs)

@@ -18,15 +18,15 @@ pub data Form : Type 0 where
   byte : ℕ → (ℕ → Bool) → (ℕ → Form) → Form
   word : ℕ → (ℕ → Bool) → (ℕ → Form) → Form
 
--- a piece, and then what its value says
 infixl 10 _>>=_
+-- a piece, and then what its value says
 unfoldable pub _>>=_ : Form → (ℕ → Form) → Form
 whole v >>= next = next v
 byte r t f >>= next = byte r t (λ b. f b >>= next)
 word r t f >>= next = word r t (λ v. f v >>= next)
 
--- a piece, and then another
 infixl 10 _>>_
+-- a piece, and then another
 abbrev pub _>>_ : Form → Form → Form
 p >> q = p >>= (λ _. q)
 

@@ -1,2 +1,3 @@
 pub mod Form
 pub mod Pieces
+pub mod Judging

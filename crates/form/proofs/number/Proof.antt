@@ -1,62 +1,47 @@
+-- The field is there or waits; its value is the number of its four bytes.
 use borrow.Author.Needs.{needs}
 use native.Mathlib.Omega.{arith}
 use Rattle.form.specs.Pieces.{any}
 use Rattle.form.proofs.Laws.{four-waits, number-there}
 use Rattle.form.proofs.number.Statement.{statement}
 use Rattle.form.proofs.number.Tie as tie
-use Rattle.form.proofs.number.Reads as reads
-use Rattle.form.proofs.number.Lts as lts
-use Rattle.form.proofs.little.Reads as little-reads
 
--- src/lib.rt:30:9
 returns : tie.Need-returns
 returns c = four-waits 0 any _ _ (omega arith)
 
--- src/lib.rt:32:8
 sub-if2 : tie.Need-sub-if2
 sub-if2 c = search needs
 
--- src/lib.rt:33:9
 returns-2 : tie.Need-returns-2
 returns-2 c = four-waits 0 any _ _ (omega arith)
 
--- src/lib.rt:35:20
 shared-slice-read-little : tie.Need-shared-slice-read-little
 shared-slice-read-little c = search needs
 
--- src/lib.rt:35:29
 add-little : tie.Need-add-little
 add-little c = search needs
 
--- src/lib.rt:35:27
 shared-slice-read-little-2 : tie.Need-shared-slice-read-little-2
 shared-slice-read-little-2 c = search needs
 
--- src/lib.rt:35:40
 add-little-2 : tie.Need-add-little-2
 add-little-2 c = search needs
 
--- src/lib.rt:35:38
 shared-slice-read-little-3 : tie.Need-shared-slice-read-little-3
 shared-slice-read-little-3 c = search needs
 
--- src/lib.rt:35:51
 add-little-3 : tie.Need-add-little-3
 add-little-3 c = search needs
 
--- src/lib.rt:35:49
 shared-slice-read-little-4 : tie.Need-shared-slice-read-little-4
 shared-slice-read-little-4 c = search needs
 
--- src/lib.rt:35:9
 little-requires : tie.Need-little-requires
 little-requires c κs = search needs
 
--- src/lib.rt:36:15
 add-end : tie.Need-add-end
 add-end c = search needs
 
--- src/lib.rt:26:1
 returns-3 : tie.Need-returns-3
 returns-3 c = number-there _ _ (omega arith) (c .little .ensures)
 

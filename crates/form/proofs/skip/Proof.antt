@@ -1,32 +1,25 @@
+-- No byte at all, the bytes not there yet, or all there.
 use borrow.Author.Needs.{needs}
 use native.Mathlib.Omega.{arith}
 use Rattle.form.proofs.Laws.{free-none, free-waits, free-whole}
 use Rattle.form.proofs.skip.Statement.{statement}
 use Rattle.form.proofs.skip.Tie as tie
-use Rattle.form.proofs.skip.Reads as reads
-use Rattle.form.proofs.skip.Lts as lts
 
--- src/lib.rt:45:9
 returns : tie.Need-returns
 returns c = free-none _ _ _ (c .if1 .taken)
 
--- src/lib.rt:48:9
 returns-2 : tie.Need-returns-2
 returns-2 c = free-waits _ _ _ (omega arith) (omega arith)
 
--- src/lib.rt:50:8
 sub-if3 : tie.Need-sub-if3
 sub-if3 c = search needs
 
--- src/lib.rt:51:9
 returns-3 : tie.Need-returns-3
 returns-3 c = free-waits _ _ _ (omega arith) (omega arith)
 
--- src/lib.rt:53:15
 add-end : tie.Need-add-end
 add-end c = search needs
 
--- src/lib.rt:41:1
 returns-4 : tie.Need-returns-4
 returns-4 c = free-whole _ _ _ (omega arith)
 
