@@ -212,6 +212,27 @@ whole-waits-before p k n bs h j l = go (judge p 0 (take j bs)) refl
     go (Bad r) e = bad-whole (same (λ z. bad-waits e z) ∙ e) h
     go Waiting e = e
 
+-- the first bytes by which a place is judged: they settle it whatever is behind, and fewer of them wait
+pub record Settled (p : Form) (bs : List ℕ) : Type 0 where
+  pub size : ℕ
+  pub within : size ≤ length bs
+  pub settles : (more : List ℕ) → judge p 0 (take size bs ++ more) ≡ judge p 0 bs
+  pub before : (j : ℕ) → j < size → judge p 0 (take j bs) ≡ Waiting
+
+-- a judgement looks at no byte behind the frame or behind the byte that it refuses
+pub looks-no-further : (p : Form) (bs : List ℕ) → (judge p 0 bs ≡ Waiting → ⊥) → Settled p bs
+looks-no-further p bs d = go (judge p 0 bs) refl
+  where
+    go : (w : Judgement) → judge p 0 bs ≡ w → Settled p bs
+    go (Whole k n) e = record {
+      size = n;
+      within = whole-fits p k n bs e;
+      settles = λ more. whole-looks-no-further p k n bs more e ∙ sym e;
+      before = whole-waits-before p k n bs e;
+    }
+    go (Bad r) e = let g = bad-looks-no-further p 0 r bs e in record { size = g .size; within = g .within; settles = λ more. g .settles more ∙ sym e; before = g .before }
+    go Waiting e = absurd (d e)
+
 -- -- Waiting exactly if it can be completed
 
 -- bytes that end inside a four-byte field wait
