@@ -1,10 +1,11 @@
 -- Upper-case hex numbers of any width, most significant digit first (document 000, size field).
-use mathlib.Core.Bool.{Bool, cond}
+use mathlib.Core.Bool.{Bool, true, cond}
+use mathlib.Core.Path.{_≡_}
 use mathlib.Core.List.{List, [], _∷_, _++_}
 use Prim.Native.Nat.{ℕ, zero, suc, _+_, _-_, _*_, _/_, _%_}
 use lib.Dec.{leb}
 use lib.ListN.{take, drop}
-use Rattle.digits.specs.Bytes.{within}
+use Rattle.digits.specs.Bytes.{within, isHex}
 
 -- what a digit stands for; 0 for a byte that is no digit
 unfoldable pub digit : ℕ → ℕ
@@ -31,3 +32,8 @@ hexDigits (suc n) v = hexDigits n (v / 16) ++ (glyph (v % 16) ∷ [])
 -- the number in the n digits from offset at on
 abbrev pub hexAt : ℕ → ℕ → List ℕ → ℕ
 hexAt n at bs = hexValue (take n (drop at bs))
+
+-- every byte of the list is an upper-case hex digit
+unfoldable pub AllHex : List ℕ → Type 0
+AllHex [] = Unit {0}
+AllHex (b ∷ bs) = (isHex b ≡ true) × AllHex bs

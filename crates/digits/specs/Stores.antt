@@ -2,15 +2,20 @@
 use mathlib.Core.Bool.{cond}
 use mathlib.Core.Path.{_≡_}
 use mathlib.Core.List.{List}
-use Prim.Native.Nat.{ℕ}
+use Prim.Native.Nat.{ℕ, _+_}
 use lib.Dec.{eqb, leb}
 use lib.ListN.{length}
 use lib.Seq.{sets}
+use Rattle.digits.specs.LittleEndian.{toLittle}
 use Rattle.digits.specs.declared.Written.{Written}
 
 -- the buffer with the bytes laid over it from offset at on; all others stay
 unfoldable pub stored : List ℕ → ℕ → List ℕ → List ℕ
 stored out at bytes = sets out at bytes
+
+-- the buffer with the 32-bit number v laid over it at offset at; unchanged where it does not fit
+unfoldable pub wordStored : List ℕ → ℕ → ℕ → List ℕ
+wordStored out at v = cond (leb (at + 4) (length out)) (stored out at (toLittle 4 v)) out
 
 -- the answer of a writer whose values are refused with this number (0: not refused), and 51 where the output is too short (paper 01, "Refusal numbers")
 abbrev pub writerAnswer : ℕ → List ℕ → List ℕ → Written

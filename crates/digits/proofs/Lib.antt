@@ -1,0 +1,5 @@
+pub mod Choices
+pub mod Lists
+pub mod LittleEndianLaws
+pub mod HexLaws
+pub mod StoreLaws

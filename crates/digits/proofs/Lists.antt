@@ -1,0 +1,75 @@
+-- Bytes of a list at an offset, and bounds on all numbers of a list.
+use mathlib.Core.Path.{_≡_, refl, sym, ap, _∙_}
+use mathlib.Core.List.{List, [], _∷_, _++_}
+use Prim.Native.Nat.{ℕ, zero, suc, _+_, _<_, _≤_}
+use native.Mathlib.Numerals.{add-one}
+use native.Mathlib.Omega.{arith}
+use lib.ListN.{length, take, drop, getD, set, replicate}
+use lib.Seq.{drop-cons, sets}
+use Rattle.digits.specs.Bytes.{Below}
+
+-- -- The bytes from an offset on
+
+-- the first byte from offset at on, then the rest
+pub drop-one : (s : List ℕ) (at : ℕ) → at < length s → drop at s ≡ getD s at 0 ∷ drop (at + 1) s
+drop-one s at h = rw add-one (drop-cons s at 0 h)
+
+-- the first four bytes from offset at on, then the rest
+pub drop-four : (s : List ℕ) (at : ℕ) → at + 4 ≤ length s
+    → drop at s ≡ getD s at 0 ∷ getD s (at + 1) 0 ∷ getD s (at + 2) 0 ∷ getD s (at + 3) 0 ∷ drop (at + 4) s
+drop-four s at h =
+    let e1 : at + 1 + 1 ≡ at + 2 = omega arith in
+    let e2 : at + 2 + 1 ≡ at + 3 = omega arith in
+    let e3 : at + 3 + 1 ≡ at + 4 = omega arith in
+    let d0 = drop-one s at (omega arith) in
+    let d1 : drop (at + 1) s ≡ getD s (at + 1) 0 ∷ drop (at + 2) s = rw (← e1) (drop-one s (at + 1) (omega arith)) in
+    let d2 : drop (at + 2) s ≡ getD s (at + 2) 0 ∷ drop (at + 3) s = rw (← e2) (drop-one s (at + 2) (omega arith)) in
+    let d3 : drop (at + 3) s ≡ getD s (at + 3) 0 ∷ drop (at + 4) s = rw (← e3) (drop-one s (at + 3) (omega arith)) in
+    cc
+
+-- the four bytes from offset at on
+pub take-four : (s : List ℕ) (at : ℕ) → at + 4 ≤ length s
+    → take 4 (drop at s) ≡ getD s at 0 ∷ getD s (at + 1) 0 ∷ getD s (at + 2) 0 ∷ getD s (at + 3) 0 ∷ []
+take-four s at h = rw (drop-four s at h)
+
+-- -- Bounds on all numbers
+
+pub below-append : (bound : ℕ) (xs ys : List ℕ) → Below bound xs → Below bound ys → Below bound (xs ++ ys)
+unfolding Below
+below-append bound [] ys h k = k
+below-append bound (x ∷ xs) ys (h, hs) k = (h, below-append bound xs ys hs k)
+
+pub below-take : (bound n : ℕ) (xs : List ℕ) → Below bound xs → Below bound (take n xs)
+unfolding Below
+below-take bound zero xs h = tt
+below-take bound (suc n) [] h = tt
+below-take bound (suc n) (x ∷ xs) (h, hs) = (h, below-take bound n xs hs)
+
+pub below-drop : (bound n : ℕ) (xs : List ℕ) → Below bound xs → Below bound (drop n xs)
+unfolding Below
+below-drop bound zero xs h = h
+below-drop bound (suc n) [] h = tt
+below-drop bound (suc n) (x ∷ xs) (h, hs) = below-drop bound n xs hs
+
+-- the number at any offset, 0 behind the end included
+pub below-at : (bound : ℕ) (xs : List ℕ) (at : ℕ) → 0 < bound → Below bound xs → getD xs at 0 < bound
+unfolding Below
+below-at bound [] at p h = p
+below-at bound (x ∷ xs) zero p (h, hs) = h
+below-at bound (x ∷ xs) (suc at) p (h, hs) = below-at bound xs at p hs
+
+pub below-replicate : (bound n v : ℕ) → v < bound → Below bound (replicate n v)
+unfolding Below
+below-replicate bound zero v h = tt
+below-replicate bound (suc n) v h = (h, below-replicate bound n v h)
+
+pub below-set : (bound : ℕ) (xs : List ℕ) (at v : ℕ) → v < bound → Below bound xs → Below bound (set xs at v)
+unfolding Below
+below-set bound [] at v p h = tt
+below-set bound (x ∷ xs) zero v p (h, hs) = (p, hs)
+below-set bound (x ∷ xs) (suc at) v p (h, hs) = (h, below-set bound xs at v p hs)
+
+pub below-sets : (bound : ℕ) (xs : List ℕ) (at : ℕ) (vs : List ℕ) → Below bound vs → Below bound xs → Below bound (sets xs at vs)
+unfolding Below
+below-sets bound xs at [] p h = h
+below-sets bound xs at (v ∷ vs) (p, ps) h = below-sets bound (set xs at v) (suc at) vs ps (below-set bound xs at v p h)

@@ -1,0 +1,116 @@
+-- Stores into a lent buffer, one piece behind the other, and the three answers of a writer. The engine is `sets-append`: storing two pieces is storing the first, then the second behind it.
+use mathlib.Core.Path.{_≡_, refl, sym, ap, _∙_}
+use mathlib.Core.List.{List, [], _∷_, _++_, append-nil}
+use Prim.Native.Nat.{ℕ, zero, suc, _+_, _*_, _/_, _%_, _^_, _<_, _≤_}
+use native.Mathlib.Nat.{add-zero, zero-add}
+use native.Mathlib.Numerals.{add-one, add-two, add-three}
+use native.Mathlib.Omega.{arith}
+use borrow.Author.Tests.{le-leb, lt-leb, eq-eqb, ne-eqb}
+use lib.Dec.{leb}
+use lib.ListN.{length, take, drop, getD, set, length-set}
+use lib.Seq.{sets, sets-eq, length-sets, set-comm, set-out}
+use Rattle.digits.specs.LittleEndian.{toLittle}
+use Rattle.digits.specs.Stores.{stored, wordStored, writerAnswer, writerLeaves, Writes}
+use Rattle.digits.specs.declared.Written.{Written}
+use Rattle.digits.proofs.Choices.{cond-apply, cond-same}
+
+-- -- Pieces one behind the other
+
+-- two pieces: the first, then the second behind it
+pub sets-append : (l : List ℕ) (at : ℕ) (xs ys : List ℕ) → sets l at (xs ++ ys) ≡ sets (sets l at xs) (at + length xs) ys
+sets-append l at [] ys = rw (add-zero at)
+sets-append l at (x ∷ xs) ys =
+    let e : at + suc (length xs) ≡ suc at + length xs = omega arith in
+    rw e (sets-append (set l at x) (suc at) xs ys)
+
+-- a store behind a piece may come before it
+pub set-behind : (l : List ℕ) (at : ℕ) (xs : List ℕ) (j b : ℕ) → at + length xs ≤ j → set (sets l at xs) j b ≡ sets (set l j b) at xs
+set-behind l at [] j b h = refl
+set-behind l at (x ∷ xs) j b h =
+    set-behind (set l at x) (suc at) xs j b (omega arith) ∙ ap (λ (k : List ℕ). sets k (suc at) xs) (set-comm l at j x b (λ e. omega arith))
+
+-- a piece behind a piece may come before it
+pub sets-behind : (l : List ℕ) (at : ℕ) (xs : List ℕ) (j : ℕ) (ys : List ℕ) → at + length xs ≤ j → sets (sets l at xs) j ys ≡ sets (sets l j ys) at xs
+sets-behind l at xs j [] h = refl
+sets-behind l at xs j (y ∷ ys) h =
+    ap (λ (k : List ℕ). sets k (suc j) ys) (set-behind l at xs j y h) ∙ sets-behind (set l j y) at xs (suc j) ys (omega arith)
+
+-- -- The same of `stored`
+
+-- no bytes change nothing
+pub stored-nil : (l : List ℕ) (at : ℕ) → stored l at [] ≡ l
+unfolding stored
+stored-nil l at = refl
+
+-- one byte is one store
+pub stored-one : (l : List ℕ) (at b : ℕ) → set l at b ≡ stored l at (b ∷ [])
+unfolding stored
+stored-one l at b = refl
+
+-- two pieces: the first, then the second behind it
+pub stored-append : (l : List ℕ) (at : ℕ) (xs ys : List ℕ) → stored l at (xs ++ ys) ≡ stored (stored l at xs) (at + length xs) ys
+unfolding stored
+stored-append l at xs ys = sets-append l at xs ys
+
+-- a piece stored, then what follows it, is both stored at once: the step of every writer
+pub then : (l l′ r : List ℕ) (at n : ℕ) (xs ys : List ℕ) → l′ ≡ stored l at xs → length xs ≡ n → r ≡ stored l′ (at + n) ys → r ≡ stored l at (xs ++ ys)
+then l l′ r at n xs ys p e q = q ∙ ap (λ (k : List ℕ). stored k (at + n) ys) p ∙ rw (← e) (sym (stored-append l at xs ys))
+
+-- a store keeps the length
+pub length-stored : (l : List ℕ) (at : ℕ) (bs : List ℕ) → length (stored l at bs) ≡ length l
+unfolding stored
+length-stored l at bs = length-sets l at bs
+
+-- bytes that fit replace those at their offsets, and all others stay
+pub stored-parts : (l : List ℕ) (at : ℕ) (bs : List ℕ) → at + length bs ≤ length l → stored l at bs ≡ take at l ++ bs ++ drop (at + length bs) l
+unfolding stored
+stored-parts l at bs h = sets-eq bs l at h
+
+-- bytes stored at the start: they come first, and all behind them stay
+pub stored-start : (l bs : List ℕ) → length bs ≤ length l → stored l 0 bs ≡ bs ++ drop (length bs) l
+stored-start l bs h = rw (zero-add (length bs)) at (stored-parts l 0 bs (omega arith))
+
+-- -- 32-bit numbers
+
+-- a number that fits is its four bytes
+pub word-fits : (l : List ℕ) (at v : ℕ) → at + 4 ≤ length l → wordStored l at v ≡ stored l at (toLittle 4 v)
+unfolding wordStored
+word-fits l at v h = rw (le-leb (at + 4) (length l) h)
+
+-- a number that does not fit changes nothing
+pub word-unfit : (l : List ℕ) (at v : ℕ) → length l < at + 4 → wordStored l at v ≡ l
+unfolding wordStored
+word-unfit l at v h = rw (lt-leb (at + 4) (length l) h)
+
+-- either way the length stays
+pub length-word-stored : (l : List ℕ) (at v : ℕ) → length (wordStored l at v) ≡ length l
+unfolding wordStored
+length-word-stored l at v = cond-apply length (leb (at + 4) (length l)) (stored l at (toLittle 4 v)) l ∙ rw (length-stored l at (toLittle 4 v)) (cond-same (leb (at + 4) (length l)) (length l))
+
+-- four stores in a row are the number
+pub four-stores : (l : List ℕ) (at v : ℕ) → at + 4 ≤ length l
+    → set (set (set (set l at (v % 256)) (at + 1) (v / 256 % 256)) (at + 2) (v / 256 / 256 % 256)) (at + 3) (v / 256 / 256 / 256 % 256) ≡ wordStored l at v
+unfolding stored toLittle
+four-stores l at v h = rw (word-fits l at v h, add-one, add-two, add-three)
+
+-- -- The three answers of a writer
+
+-- refused values: the number, nothing written
+pub unfit : (refusal : ℕ) (bytes out : List ℕ) → (refusal ≡ 0 → ⊥) → Writes refusal bytes out (record { refusal = refusal; size = 0 }) out
+unfit refusal bytes out h = record { answers = rw (ne-eqb refusal 0 h); leaves = rw (ne-eqb refusal 0 h) }
+
+-- the output too short: 51, nothing written
+pub short : (refusal : ℕ) (bytes out : List ℕ) → refusal ≡ 0 → length out < length bytes → Writes refusal bytes out (record { refusal = 51; size = 0 }) out
+short refusal bytes out h k =
+    record {
+      answers = rw (eq-eqb refusal 0 h, lt-leb (length bytes) (length out) k);
+      leaves = rw (eq-eqb refusal 0 h, lt-leb (length bytes) (length out) k);
+    }
+
+-- all written: the byte count, and exactly these bytes changed
+pub done : (refusal : ℕ) (bytes out after : List ℕ) (n : ℕ) → refusal ≡ 0 → length bytes ≡ n → n ≤ length out → after ≡ stored out 0 bytes → Writes refusal bytes out (record { refusal = 0; size = n }) after
+done refusal bytes out after n h e k s =
+    record {
+      answers = rw (eq-eqb refusal 0 h, le-leb (length bytes) (length out) (omega arith), e);
+      leaves = s ∙ rw (eq-eqb refusal 0 h, le-leb (length bytes) (length out) (omega arith));
+    }
