@@ -1,7 +1,5 @@
 // The judgement of bytes by a grammar, and the pieces that every wire's judgement is made of.
 ghost use mathlib.Core.Path.{_≡_};
-ghost use mathlib.Core.List.{List, [], _∷_};
-ghost use Rattle.digits.specs.LittleEndian.{fromLittle};
 ghost use Rattle.form.specs.Form.{judgeAt};
 ghost use Rattle.form.specs.Pieces.{any, four, free, frees};
 
@@ -15,13 +13,6 @@ pub enum Judgement {
     Waiting,
 }
 
-// The number in four bytes, least significant first.
-fn little(a: u8, b: u8, c: u8, d: u8) -> u32
-    ensures { λ r. ⌜ r ≡ fromLittle (a ∷ b ∷ c ∷ d ∷ []) ⌝ }
-{
-    a as u32 + 256 * (b as u32) + 65536 * (c as u32) + 16777216 * (d as u32)
-}
-
 // The four-byte field at offset `at`: its number and the offset behind it, or waiting for its bytes.
 pub fn number(s: &[u8], at: usize) -> Judgement
     ensures { λ r. ⌜ r ≡ judgeAt (four 0 any) at (now (s .entry)) ⌝ }
@@ -32,7 +23,7 @@ pub fn number(s: &[u8], at: usize) -> Judgement
     if s.len() - at < 4 {
         return Judgement::Waiting;
     }
-    let v = little(s[at], s[at + 1], s[at + 2], s[at + 3]);
+    let v = digits::join(s[at], s[at + 1], s[at + 2], s[at + 3]);
     let end = at + 4;
     Judgement::Whole(v, end)
 }

@@ -15,35 +15,35 @@ sub-if2 c = search needs
 returns-2 : tie.Need-returns-2
 returns-2 c = four-waits 0 any _ _ (omega arith)
 
-shared-slice-read-little : tie.Need-shared-slice-read-little
-shared-slice-read-little c = search needs
+shared-slice-read-join : tie.Need-shared-slice-read-join
+shared-slice-read-join c = search needs
 
-add-little : tie.Need-add-little
-add-little c = search needs
+add-join : tie.Need-add-join
+add-join c = search needs
 
-shared-slice-read-little-2 : tie.Need-shared-slice-read-little-2
-shared-slice-read-little-2 c = search needs
+shared-slice-read-join-2 : tie.Need-shared-slice-read-join-2
+shared-slice-read-join-2 c = search needs
 
-add-little-2 : tie.Need-add-little-2
-add-little-2 c = search needs
+add-join-2 : tie.Need-add-join-2
+add-join-2 c = search needs
 
-shared-slice-read-little-3 : tie.Need-shared-slice-read-little-3
-shared-slice-read-little-3 c = search needs
+shared-slice-read-join-3 : tie.Need-shared-slice-read-join-3
+shared-slice-read-join-3 c = search needs
 
-add-little-3 : tie.Need-add-little-3
-add-little-3 c = search needs
+add-join-3 : tie.Need-add-join-3
+add-join-3 c = search needs
 
-shared-slice-read-little-4 : tie.Need-shared-slice-read-little-4
-shared-slice-read-little-4 c = search needs
+shared-slice-read-join-4 : tie.Need-shared-slice-read-join-4
+shared-slice-read-join-4 c = search needs
 
-little-requires : tie.Need-little-requires
-little-requires c κs = search needs
+join-requires : tie.Need-join-requires
+join-requires c κs = search needs
 
 add-end : tie.Need-add-end
 add-end c = search needs
 
 returns-3 : tie.Need-returns-3
-returns-3 c = number-there _ _ (omega arith) (c .little .ensures)
+returns-3 c = number-there _ _ (omega arith) (c .join .ensures)
 
 pub number-spec : {M : Type 1} → statement M
 number-spec =
@@ -52,13 +52,13 @@ number-spec =
     returns
     sub-if2
     returns-2
-    shared-slice-read-little
-    add-little
-    shared-slice-read-little-2
-    add-little-2
-    shared-slice-read-little-3
-    add-little-3
-    shared-slice-read-little-4
-    little-requires
+    shared-slice-read-join
+    add-join
+    shared-slice-read-join-2
+    add-join-2
+    shared-slice-read-join-3
+    add-join-3
+    shared-slice-read-join-4
+    join-requires
     add-end
     returns-3)
