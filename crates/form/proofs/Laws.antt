@@ -3,46 +3,21 @@ use mathlib.Core.Bool.{Bool, true, false, cond}
 use mathlib.Core.Path.{_≡_, refl, sym, ap, _∙_}
 use mathlib.Core.List.{List, [], _∷_, _++_, append-nil}
 use Prim.Native.Nat.{ℕ, zero, suc, _+_, _*_, _-_, _<_, _≤_}
-use native.Mathlib.Numerals.{add-one}
 use native.Mathlib.Nat.{zero-add}
 use native.Mathlib.Omega.{arith}
 use native.Mathlib.Decide.{decLt, decLe}
 use lib.Dec.{eqb}
 use lib.ListN.{length, take, drop, getD, length-drop, drop-of-length-le}
-use lib.Seq.{drop-cons}
 use borrow.Author.Tests.{eq-eqb, ne-eqb, eqb-true}
 use types.Run.{OneOf, miss}
 use denote.Enum.Declared.{tagOf}
 use Rattle.digits.specs.LittleEndian.{fromLittle, littleAt}
+use Rattle.digits.proofs.Lists.{drop-one, drop-four}
 use Rattle.form.specs.declared.Judgement.{Judgement}
 use Rattle.form.specs.declared.Judgement.the-variants.{Whole, Bad, Waiting}
 use Rattle.form.specs.Form.{Form, whole, byte, word, _>>=_, judge, judgeAt, Frame}
 use Rattle.form.specs.Pieces.{any, four, marker, free, frees}
 use Rattle.form.proofs.Judgement.{the-type}
-
--- -- The bytes from an offset on
-
--- one byte from offset at on, and the rest
-pub drop-one : (bs : List ℕ) (at : ℕ) → at < length bs → drop at bs ≡ getD bs at 0 ∷ drop (at + 1) bs
-drop-one bs at h = rw (add-one, drop-cons bs at 0)
-
--- four bytes from offset at on, and the rest
-pub four-there : (bs : List ℕ) (at : ℕ) → at + 4 ≤ length bs → drop at bs ≡ getD bs at 0 ∷ getD bs (at + 1) 0 ∷ getD bs (at + 2) 0 ∷ getD bs (at + 3) 0 ∷ drop (at + 4) bs
-four-there bs at h = drop-one bs at (omega arith)
-    ∙ ap (λ (l : List ℕ). getD bs at 0 ∷ l)
-    (drop-one bs (at + 1) (omega arith) ∙ ap (λ (i : ℕ). getD bs (at + 1) 0 ∷ drop i bs) e₂
-    ∙ ap (λ (l : List ℕ). getD bs (at + 1) 0 ∷ l)
-    (drop-one bs (at + 2) (omega arith) ∙ ap (λ (i : ℕ). getD bs (at + 2) 0 ∷ drop i bs) e₃
-    ∙ ap (λ (l : List ℕ). getD bs (at + 2) 0 ∷ l) (drop-one bs (at + 3) (omega arith) ∙ ap (λ (i : ℕ). getD bs (at + 3) 0 ∷ drop i bs) e₄)))
-  where
-    e₂ : at + 1 + 1 ≡ at + 2
-    e₂ = omega arith
-
-    e₃ : at + 2 + 1 ≡ at + 3
-    e₃ = omega arith
-
-    e₄ : at + 3 + 1 ≡ at + 4
-    e₄ = omega arith
 
 -- -- One node
 
@@ -61,7 +36,7 @@ byte-ends r t f at bs h = rw (drop-of-length-le bs {i = at} h)
 pub word-step : (r : ℕ) (t : ℕ → Bool) (f : ℕ → Form) (at : ℕ) (bs : List ℕ) → at + 4 ≤ length bs
     → judgeAt (word r t f) at bs ≡ cond (t (littleAt 4 at bs)) (judgeAt (f (littleAt 4 at bs)) (at + 4) bs) (Bad r)
 unfolding judge
-word-step r t f at bs h = rw (four-there bs at h)
+word-step r t f at bs h = rw (drop-four bs at h)
 
 word-short : (r : ℕ) (t : ℕ → Bool) (f : ℕ → Form) (at : ℕ) (xs : List ℕ) → length xs < 4 → judge (word r t f) at xs ≡ Waiting
 unfolding judge
@@ -153,7 +128,7 @@ four-whole r t at bs h a = sym (word-step r t whole at bs h ∙ rw a)
 
 -- the number of four bytes that are there, by the bytes
 pub little-there : (at : ℕ) (bs : List ℕ) → at + 4 ≤ length bs → fromLittle (getD bs at 0 ∷ getD bs (at + 1) 0 ∷ getD bs (at + 2) 0 ∷ getD bs (at + 3) 0 ∷ []) ≡ littleAt 4 at bs
-little-there at bs h = rw (four-there bs at h)
+little-there at bs h = rw (drop-four bs at h)
 
 -- the free field as its bytes give it
 pub number-there : (at : ℕ) (bs : List ℕ) {v : ℕ} → at + 4 ≤ length bs
