@@ -2,11 +2,11 @@
 use mathlib.Core.Bool.{Bool, true, false}
 use mathlib.Core.Path.{_≡_, refl, sym, _∙_, ap}
 use Prim.Native.Nat.{ℕ, zero, suc, _+_, _-_, _*_, _/_, _%_, _^_, _<_, _≤_}
-use native.Mathlib.Nat.{mul-comm, mul-assoc, add-mul, suc-mul, mul-left-comm, mul-le-mul, mul-le-mul-left, mul-div-mul-right, mul-lt-mul-of-pos-right, mul-le-mul-right, div-eq-of-lt, div-lt-iff-lt-mul, le-trans, le-of-lt, lt-of-lt-of-le, not-le-of-lt, mod-lt, sub-add-cancel}
+use native.Mathlib.Nat.{mul-comm, mul-assoc, add-mul, suc-mul, mul-left-comm, mul-le-mul, mul-le-mul-left, mul-div-mul-right, mul-lt-mul-of-pos-right, mul-le-mul-right, div-eq-of-lt, div-lt-iff-lt-mul, le-trans, le-of-lt, mod-le, lt-of-lt-of-le, not-le-of-lt, mod-lt, sub-add-cancel}
 use native.Mathlib.Omega.{arith}
-use lib.Dec.{ltb, eqb, lit<, lit≤}
+use lib.Dec.{leb, ltb, eqb, lit<, lit≤}
 use lib.Pow.{pow-add, pow-mono, pow-pos, shl-exact}
-use borrow.Author.Tests.{ltb-true, ltb-false, lt-ltb, le-ltb, eq-eqb, ne-eqb}
+use borrow.Author.Tests.{ltb-true, ltb-false, lt-ltb, le-ltb, le-leb, lt-leb, eq-eqb, ne-eqb}
 use lib.IntN.{pos, negℤ, _-ℤ_, +ℤ-idl}
 use mir.Syntax.{w32}
 use mir.Val.{SFits, toZ, ofZ}
@@ -28,8 +28,11 @@ one-shl : (k : ℕ) → k < 63 → (1 * 2 ^ k) % 2 ^ 64 ≡ 2 ^ k
 one-shl k h = shl-exact {a = 1} 1 k 64 (lit< tt) (omega arith) ∙ omega arith
 
 -- the sum fits
-pub half-fits : (n k : ℕ) → n < 2 ^ 35 → k < 36 → 2 * n + (1 * 2 ^ k) % 2 ^ 64 < 2 ^ 64
-half-fits n k small near = rw (one-shl k (omega arith)) (omega (arith, pow-mono {i = k} {j = 36} (omega arith)))
+pub half-fits : (n k a : ℕ) → n < 2 ^ 35 → k < 36 → a < 2 → 2 * n + (a * 2 ^ k) % 2 ^ 64 < 2 ^ 64
+half-fits n k a small near one =
+    let h : (a * 2 ^ k) % 2 ^ 64 ≤ a * 2 ^ k = mod-le (a * 2 ^ k) (2 ^ 64) in
+    let g : a * 2 ^ k ≤ 1 * 2 ^ 36 = mul-le-mul {n₁ = a} {m₁ = 2 ^ k} {n₂ = 1} {m₂ = 2 ^ 36} (omega arith) (pow-mono {i = k} {j = 36} (omega arith)) in
+    omega arith
 
 -- a shift is the closed form
 pub shifted : (n k : ℕ) → k < 36 → (2 * n + (1 * 2 ^ k) % 2 ^ 64) / 2 ^ (k + 1) ≡ nearest n (2 ^ k)
@@ -91,6 +94,13 @@ difference c k =
     (λ t. let h : suc k ≤ c = ltb-false c (suc k) t in
     let e : distance c (suc k) ≡ c - suc k = omega arith in
     rw (t, e) refl)
+
+-- a byte's class, by its two ends
+pub from-first : (b : ℕ) → 34 ≤ b → leb b 254 ≡ isCharacter b
+from-first b h = simp (le-leb 34 b h)
+
+pub before-first : (b : ℕ) → b < 34 → leb 34 b ≡ isCharacter b
+before-first b h = simp (lt-leb 34 b h)
 
 pub decibels-value : (c a : ℕ) → isCharacter c ≡ true → a ≡ distance c 174 → value (signed (ltb c 174) a) ≡ decibels c
 unfolding decibels
@@ -159,37 +169,47 @@ pub refused-not-finite : (bits : ℕ) → exponent bits ≡ 255 → refused 30 �
 unfolding millimetres
 refused-not-finite bits e = simp (eq-eqb (exponent bits) 255 e)
 
-module _ (bits m t : ℕ) (em : m ≡ significand bits) (et : t ≡ scale bits) where
+-- the significand and the scale that the code took from the bits
+pub record Parts (bits m t : ℕ) : Type 0 where
+  pub significand-is : m ≡ significand bits
+  pub scale-is : t ≡ scale bits
+  pub finite : exponent bits ≡ 255 → ⊥
+
+-- at most 1000 m
+pub record Near (m t : ℕ) : Type 0 where
+  pub near : ltb (1000 * 2 ^ 150) (m * 2 ^ t) ≡ false
+
+module _ {bits m t : ℕ} (p : Parts bits m t) where
   -- what `too_far` asks for
   pub limit-asks : (m < 2 ^ 24) × (136 < t → 2 ^ 23 ≤ m)
-  limit-asks = rw (em, et) (significand-small bits, significand-normal bits)
+  limit-asks = rw (p .significand-is, p .scale-is) (significand-small bits, significand-normal bits)
 
   -- what `rounded_shift` asks for
   pub shift-asks : 1000 * m < 2 ^ 35
   shift-asks = omega (arith, limit-asks .0)
 
-  pub refused-too-far : (exponent bits ≡ 255 → ⊥) → ltb (1000 * 2 ^ 150) (m * 2 ^ t) ≡ true → refused 31 ≡ millimetres bits
+  pub refused-too-far : ltb (1000 * 2 ^ 150) (m * 2 ^ t) ≡ true → refused 31 ≡ millimetres bits
   unfolding millimetres
-  refused-too-far finite far = simp (ne-eqb (exponent bits) 255 finite, rw (em, et) at far)
+  refused-too-far far = simp (ne-eqb (exponent bits) 255 (p .finite), rw (p .significand-is, p .scale-is) at far)
 
-  module _ (near : ltb (1000 * 2 ^ 150) (m * 2 ^ t) ≡ false) where
+  module _ (below : Near m t) where
     near-limit : m * 2 ^ t ≤ 1000 * 2 ^ 150
-    near-limit = ltb-false (1000 * 2 ^ 150) (m * 2 ^ t) near
+    near-limit = ltb-false (1000 * 2 ^ 150) (m * 2 ^ t) (below .near)
 
     pub scale-fits : t ≤ 150
     scale-fits = le-trans {m = 136} (le-of-not-lt t 136 (λ high. not-le-of-lt (over m t (limit-asks .1 high) high) near-limit)) (lit≤ tt)
 
     -- the shift rounds the exact value
     pub whole-is : (q : ℕ) → q ≡ nearest (1000 * m) (2 ^ (150 - t)) → q ≡ nearest (1000 * magnitude bits) (2 ^ 150)
-    whole-is q e = e ∙ shift-exact m t scale-fits ∙ ap (λ (x : ℕ). nearest (1000 * x) (2 ^ 150)) (rw (em, et) refl)
+    whole-is q e = e ∙ shift-exact m t scale-fits ∙ ap (λ (x : ℕ). nearest (1000 * x) (2 ^ 150)) (rw (p .significand-is, p .scale-is) refl)
 
     pub whole-small : (q : ℕ) → q ≡ nearest (1000 * m) (2 ^ (150 - t)) → q ≤ 1000000
     whole-small q e =
         rw (e ∙ shift-exact m t scale-fits)
         (nearest-most (1000 * (m * 2 ^ t)) (2 ^ 150) 1000000 (lit< tt) (mul-le-mul-left 1000 near-limit))
 
-    pub millimetres-value : (exponent bits ≡ 255 → ⊥) → (q : ℕ) → q ≡ nearest (1000 * m) (2 ^ (150 - t)) → value (signed (negative bits) q) ≡ millimetres bits
+    pub millimetres-value : (q : ℕ) → q ≡ nearest (1000 * m) (2 ^ (150 - t)) → value (signed (negative bits) q) ≡ millimetres bits
     unfolding millimetres
-    millimetres-value finite q e =
+    millimetres-value q e =
         ap (λ (x : ℕ). value (signed (negative bits) x)) (whole-is q e)
-        ∙ simp (ne-eqb (exponent bits) 255 finite, rw (em, et) at near)
+        ∙ simp (ne-eqb (exponent bits) 255 (p .finite), rw (p .significand-is, p .scale-is) at (below .near))

@@ -1,11 +1,23 @@
 -- `units::coordinate_to_millimetres` meets its contract: refused, or the nearest whole millimetre.
 use mathlib.Core.Path.{sym, _∙_}
+use native.Mathlib.Omega.{arith}
 use native.Mathlib.Nat.{lt-of-le-of-lt}
 use lib.Dec.{lit<}
 use borrow.Author.Needs.{needs}
-use Rattle.units.proofs.Machine.{refused-not-finite, limit-asks, shift-asks, refused-too-far, scale-fits, whole-small, millimetres-value}
+use Rattle.units.proofs.Machine.{Parts, Near, refused-not-finite, limit-asks, shift-asks, refused-too-far, scale-fits, whole-small, millimetres-value}
 use Rattle.units.proofs.coordinate_to_millimetres.Statement.{statement}
 use Rattle.units.proofs.coordinate_to_millimetres.Tie as tie
+
+parts : (c : tie.After-scale-of) → Parts (c .before .before .before .before .args .bits) (c .before .significand-of .result) (c .scale-of .result)
+parts c =
+    record {
+      significand-is = c .before .significand-of .ensures;
+      scale-is = c .scale-of .ensures;
+      finite = λ e. c .before .before .if1 .left (c .before .before .before .exponent-of .ensures ∙ e);
+    }
+
+near : (c : tie.Else2) → Near (c .before .before .before .significand-of .result) (c .before .before .scale-of .result)
+near c = record { near = sym (c .before .too-far .ensures) ∙ c .if2 .left }
 
 exponent-of-requires : tie.Need-exponent-of-requires
 exponent-of-requires c κs = search needs
@@ -23,13 +35,13 @@ scale-of-requires : tie.Need-scale-of-requires
 scale-of-requires c κs = search needs
 
 too-far-requires : tie.Need-too-far-requires
-too-far-requires c κs = limit-asks (c .before .before .before .before .args .bits) _ _ (c .before .significand-of .ensures) (c .scale-of .ensures)
+too-far-requires c κs = limit-asks (parts c)
 
 refusal-of-requires-2 : tie.Need-refusal-of-requires-2
 refusal-of-requires-2 c κs = search needs
 
 returns-2 : tie.Need-returns-2
-returns-2 c = c .refusal-of2 .ensures ∙ refused-too-far (c .before .before .before .before .before .before .before .args .bits) _ _ (c .before .before .before .before .significand-of .ensures) (c .before .before .before .scale-of .ensures) (λ e. c .before .before .before .before .before .if1 .left (c .before .before .before .before .before .before .exponent-of .ensures ∙ e)) (sym (c .before .before .too-far .ensures) ∙ c .before .if2 .taken)
+returns-2 c = c .refusal-of2 .ensures ∙ refused-too-far (parts (c .before .before .before)) (sym (c .before .before .too-far .ensures) ∙ c .before .if2 .taken)
 
 cast-n : tie.Need-cast-n
 cast-n c = search needs
@@ -38,19 +50,19 @@ mul-n : tie.Need-mul-n
 mul-n c = search needs
 
 sub-k : tie.Need-sub-k
-sub-k c = scale-fits (c .before .before .before .before .before .before .args .bits) _ _ (c .before .before .before .significand-of .ensures) (c .before .before .scale-of .ensures) (sym (c .before .too-far .ensures) ∙ c .if2 .left)
+sub-k c = scale-fits (parts (c .before .before)) (near c)
 
 rounded-shift-requires : tie.Need-rounded-shift-requires
-rounded-shift-requires c κs = shift-asks (c .before .before .before .before .before .before .args .bits) _ _ (c .before .before .before .significand-of .ensures) (c .before .before .scale-of .ensures)
+rounded-shift-requires c κs = omega (arith, shift-asks (parts (c .before .before)))
 
 cast-whole : tie.Need-cast-whole
-cast-whole c = record { fits = lt-of-le-of-lt (whole-small (c .before .before .before .before .before .before .before .args .bits) _ _ (c .before .before .before .before .significand-of .ensures) (c .before .before .before .scale-of .ensures) (sym (c .before .before .too-far .ensures) ∙ c .before .if2 .left) _ (c .rounded-shift .ensures)) (lit< tt) }
+cast-whole c = record { fits = lt-of-le-of-lt (whole-small (parts (c .before .before .before)) (near (c .before)) _ (c .rounded-shift .ensures)) (lit< tt) }
 
 signed-quantity-requires : tie.Need-signed-quantity-requires
-signed-quantity-requires c κs = whole-small (c .before .before .before .before .before .before .before .args .bits) _ _ (c .before .before .before .before .significand-of .ensures) (c .before .before .before .scale-of .ensures) (sym (c .before .before .too-far .ensures) ∙ c .before .if2 .left) _ (c .rounded-shift .ensures)
+signed-quantity-requires c κs = whole-small (parts (c .before .before .before)) (near (c .before)) _ (c .rounded-shift .ensures)
 
 returns-3 : tie.Need-returns-3
-returns-3 c = c .signed-quantity .ensures ∙ millimetres-value (c .before .before .before .before .before .before .before .before .args .bits) _ _ (c .before .before .before .before .before .significand-of .ensures) (c .before .before .before .before .scale-of .ensures) (sym (c .before .before .before .too-far .ensures) ∙ c .before .before .if2 .left) (λ e. c .before .before .before .before .before .before .if1 .left (c .before .before .before .before .before .before .before .exponent-of .ensures ∙ e)) _ (c .before .rounded-shift .ensures)
+returns-3 c = c .signed-quantity .ensures ∙ millimetres-value (parts (c .before .before .before .before)) (near (c .before .before)) _ (c .before .rounded-shift .ensures)
 
 pub coordinate-to-millimetres-spec : {M : Type 1} → statement M
 coordinate-to-millimetres-spec =

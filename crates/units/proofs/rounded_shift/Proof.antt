@@ -1,4 +1,5 @@
 -- `units::rounded_shift` meets its contract: the shift is the closed form; far below the half the answer is 0.
+use lib.Dec.{lit<}
 use borrow.Author.Needs.{needs}
 use Rattle.units.proofs.Machine.{near-zero, half-fits, shifted}
 use Rattle.units.proofs.rounded_shift.Statement.{statement}
@@ -14,7 +15,7 @@ shl-result : tie.Need-shl-result
 shl-result c = search needs
 
 add-result : tie.Need-add-result
-add-result c = record { fits = half-fits _ _ (c .before .pre) (c .if1 .left) }
+add-result c = record { fits = half-fits _ _ _ (c .before .pre) (c .if1 .left) (lit< tt) }
 
 add-result-2 : tie.Need-add-result-2
 add-result-2 c = search needs
