@@ -12,14 +12,14 @@ use mir.Syntax.{w32}
 use mir.Val.{SFits, toZ, ofZ}
 use mir.Facts.{toZ-pos, toZ-ofZ}
 use Rattle.digits.specs.Bytes.{isCharacter}
+use Rattle.digits.proofs.Choices.{test}
 use Rattle.units.specs.Rounding.{distance, signed, nearest}
 use Rattle.units.specs.Float.{negative, exponent, fraction, significand, scale, magnitude}
 use Rattle.units.specs.Units.{value, refused, decibels, centidegrees, millimetres}
-use Rattle.units.proofs.Rounding.{test}
 
 -- -- Rounding
 
--- below the half
+-- a value below the half rounds to 0
 pub near-zero : (n k : ℕ) → n < 2 ^ 35 → 36 ≤ k → 0 ≡ nearest n (2 ^ k)
 unfolding nearest
 near-zero n k small far = sym (div-eq-of-lt (omega (arith, pow-mono {i = 36} {j = k} far)))
@@ -27,7 +27,7 @@ near-zero n k small far = sym (div-eq-of-lt (omega (arith, pow-mono {i = 36} {j 
 one-shl : (k : ℕ) → k < 63 → (1 * 2 ^ k) % 2 ^ 64 ≡ 2 ^ k
 one-shl k h = shl-exact {a = 1} 1 k 64 (lit< tt) (omega arith) ∙ omega arith
 
--- the sum fits
+-- twice the value and a half's shift (a is 1) fit 64 bits
 pub half-fits : (n k a : ℕ) → n < 2 ^ 35 → k < 36 → a < 2 → 2 * n + (a * 2 ^ k) % 2 ^ 64 < 2 ^ 64
 half-fits n k a small near one =
     let h : (a * 2 ^ k) % 2 ^ 64 ≤ a * 2 ^ k = mod-le (a * 2 ^ k) (2 ^ 64) in
@@ -74,17 +74,18 @@ minus q h = rw (toZ-pos w32 {n = q} (omega arith)) (+ℤ-idl (negℤ (pos q)))
 pub minus-fits : (q : ℕ) → q ≤ 1000000 → SFits w32 (pos 0 -ℤ toZ w32 q)
 minus-fits q h = rw (minus q h) (small-neg q h)
 
--- the two signs that the code makes
+-- the code's number of a negative sign
 pub made-negative : (sign : Bool) (q : ℕ) → q ≤ 1000000 → sign ≡ true → value (toZ w32 (ofZ w32 (pos 0 -ℤ toZ w32 q))) ≡ value (signed sign q)
 made-negative sign q h t = rw (t, minus q h) (ap value (toZ-ofZ {w = w32} {z = negℤ (pos q)} (small-neg q h)))
 
+-- the code's number of a positive sign
 pub made-positive : (sign : Bool) (q : ℕ) → q ≤ 1000000 → sign ≡ false → value (toZ w32 q) ≡ value (signed sign q)
 made-positive sign q h t = rw t (ap value (toZ-pos w32 {n = q} (omega arith)))
 
 -- -- Characters
 
--- sign and magnitude of c - zero
-difference : (c zero′ : ℕ) → signed (ltb c (suc zero′)) (distance c (suc zero′)) ≡ pos c -ℤ pos (suc zero′)
+-- a difference by its sign and magnitude
+difference : (c k : ℕ) → signed (ltb c (suc k)) (distance c (suc k)) ≡ pos c -ℤ pos (suc k)
 difference c k =
     test
     (ltb c (suc k))
@@ -95,25 +96,30 @@ difference c k =
     let e : distance c (suc k) ≡ c - suc k = omega arith in
     rw (t, e) refl)
 
--- a byte's class, by its two ends
+-- from the first character on, the last one decides
 pub from-first : (b : ℕ) → 34 ≤ b → leb b 254 ≡ isCharacter b
 from-first b h = simp (le-leb 34 b h)
 
+-- below the first character there is none
 pub before-first : (b : ℕ) → b < 34 → leb 34 b ≡ isCharacter b
 before-first b h = simp (lt-leb 34 b h)
 
+-- the dB of a character
 pub decibels-value : (c a : ℕ) → isCharacter c ≡ true → a ≡ distance c 174 → value (signed (ltb c 174) a) ≡ decibels c
 unfolding decibels
 decibels-value c a t e = simp (t, e) (ap value (difference c 173))
 
+-- no dB for any other byte
 pub decibels-refused : (c : ℕ) → isCharacter c ≡ false → refused 50 ≡ decibels c
 unfolding decibels
 decibels-refused c t = simp t
 
+-- the phase of a character
 pub centidegrees-value : (c a q : ℕ) → isCharacter c ≡ true → a ≡ distance c 144 → q ≡ nearest (1800 * a) 11 → value (signed (ltb c 144) q) ≡ centidegrees c
 unfolding centidegrees
 centidegrees-value c a q t e f = simp (t, f, e)
 
+-- no phase for any other byte
 pub centidegrees-refused : (c : ℕ) → isCharacter c ≡ false → refused 50 ≡ centidegrees c
 unfolding centidegrees
 centidegrees-refused c t = simp t
@@ -125,6 +131,7 @@ centidegrees-small c a q h e f = rw f (nearest-most (1800 * a) 11 1000000 (lit< 
 -- -- Floats
 
 module _ (bits : ℕ) where
+  -- a significand has 24 bits
   pub significand-small : significand bits < 2 ^ 24
   unfolding significand
   significand-small =
@@ -139,10 +146,12 @@ module _ (bits : ℕ) where
 
 -- -- The limit: 1000 * 2 ^ 150 is 16384000 * 2 ^ 136
 
+-- below the limit's scale 24 bits do not reach it
 pub below-limit : (m t : ℕ) → m < 2 ^ 24 → t < 136 → false ≡ ltb (1000 * 2 ^ 150) (m * 2 ^ t)
 below-limit m t small low =
     sym (le-ltb (1000 * 2 ^ 150) (m * 2 ^ t) (le-trans (mul-le-mul (le-of-lt small) (pow-mono {i = t} {j = 135} (omega arith))) (lit≤ {m = 2 ^ 24 * 2 ^ 135} tt)))
 
+-- a common factor does not change the order
 ltb-scaled : (a b f : ℕ) → 0 < f → ltb a b ≡ ltb (a * f) (b * f)
 ltb-scaled a b f h =
     test
@@ -150,13 +159,16 @@ ltb-scaled a b f h =
     (λ t. t ∙ sym (lt-ltb (a * f) (b * f) (mul-lt-mul-of-pos-right (ltb-true a b t) h)))
     (λ t. t ∙ sym (le-ltb (a * f) (b * f) (mul-le-mul-right f (ltb-false a b t))))
 
+-- at the limit's scale the significands decide
 pub at-limit : (m t : ℕ) → t ≡ 136 → ltb 16384000 m ≡ ltb (1000 * 2 ^ 150) (m * 2 ^ t)
 at-limit m t e = rw e (ltb-scaled 16384000 m (2 ^ 136) (lit< tt))
 
+-- above the limit's scale a leading one is over it
 over : (m t : ℕ) → 2 ^ 23 ≤ m → 136 < t → 1000 * 2 ^ 150 < m * 2 ^ t
 over m t normal high =
     lt-of-lt-of-le (lit< {n = 2 ^ 23 * 2 ^ 137} tt) (mul-le-mul normal (pow-mono {i = 137} {j = t} high))
 
+-- the same as a test
 pub above-limit : (m t : ℕ) → 2 ^ 23 ≤ m → 136 < t → true ≡ ltb (1000 * 2 ^ 150) (m * 2 ^ t)
 above-limit m t normal high = sym (lt-ltb (1000 * 2 ^ 150) (m * 2 ^ t) (over m t normal high))
 
@@ -165,11 +177,12 @@ above-limit m t normal high = sym (lt-ltb (1000 * 2 ^ 150) (m * 2 ^ t) (over m t
 le-of-not-lt : (a b : ℕ) → (b < a → ⊥) → a ≤ b
 le-of-not-lt a b h = test (ltb b a) (λ t. absurd (h (ltb-true b a t))) (λ t. ltb-false b a t)
 
+-- infinite or no number
 pub refused-not-finite : (bits : ℕ) → exponent bits ≡ 255 → refused 30 ≡ millimetres bits
 unfolding millimetres
 refused-not-finite bits e = simp (eq-eqb (exponent bits) 255 e)
 
--- the significand and the scale that the code took from the bits
+-- the significand and the scale that the code took from the bits of a number
 pub record Parts (bits m t : ℕ) : Type 0 where
   pub significand-is : m ≡ significand bits
   pub scale-is : t ≡ scale bits
@@ -188,6 +201,7 @@ module _ {bits m t : ℕ} (p : Parts bits m t) where
   pub shift-asks : 1000 * m < 2 ^ 35
   shift-asks = omega (arith, limit-asks .0)
 
+  -- over 1000 m
   pub refused-too-far : ltb (1000 * 2 ^ 150) (m * 2 ^ t) ≡ true → refused 31 ≡ millimetres bits
   unfolding millimetres
   refused-too-far far = simp (ne-eqb (exponent bits) 255 (p .finite), rw (p .significand-is, p .scale-is) at far)
@@ -196,6 +210,7 @@ module _ {bits m t : ℕ} (p : Parts bits m t) where
     near-limit : m * 2 ^ t ≤ 1000 * 2 ^ 150
     near-limit = ltb-false (1000 * 2 ^ 150) (m * 2 ^ t) (below .near)
 
+    -- the scale leaves something to shift by
     pub scale-fits : t ≤ 150
     scale-fits = le-trans {m = 136} (le-of-not-lt t 136 (λ high. not-le-of-lt (over m t (limit-asks .1 high) high) near-limit)) (lit≤ tt)
 
@@ -203,11 +218,13 @@ module _ {bits m t : ℕ} (p : Parts bits m t) where
     pub whole-is : (q : ℕ) → q ≡ nearest (1000 * m) (2 ^ (150 - t)) → q ≡ nearest (1000 * magnitude bits) (2 ^ 150)
     whole-is q e = e ∙ shift-exact m t scale-fits ∙ ap (λ (x : ℕ). nearest (1000 * x) (2 ^ 150)) (rw (p .significand-is, p .scale-is) refl)
 
+    -- at most 1000 m is at most a million millimetres
     pub whole-small : (q : ℕ) → q ≡ nearest (1000 * m) (2 ^ (150 - t)) → q ≤ 1000000
     whole-small q e =
         rw (e ∙ shift-exact m t scale-fits)
         (nearest-most (1000 * (m * 2 ^ t)) (2 ^ 150) 1000000 (lit< tt) (mul-le-mul-left 1000 near-limit))
 
+    -- the value that is not refused
     pub millimetres-value : (q : ℕ) → q ≡ nearest (1000 * m) (2 ^ (150 - t)) → value (signed (negative bits) q) ≡ millimetres bits
     unfolding millimetres
     millimetres-value q e =

@@ -9,19 +9,8 @@ use native.Mathlib.Omega.{arith}
 use lib.Dec.{ltb}
 use borrow.Author.Tests.{ltb-true, ltb-false}
 use lib.IntN.{ℤ, pos, negsuc, negℤ, natAbs, _+ℤ_, _-ℤ_, _*ℤ_, negℤ-negℤ, negℤ-+ℤ}
+use Rattle.digits.proofs.Choices.{test, either}
 use Rattle.units.specs.Rounding.{distance, signed, gap, Nearest, Half, AwayFromZero, nearest}
-
--- -- Cases
-
--- by the value of a test, with the test as an equation
-pub test : {C : Type 0} (b : Bool) → (b ≡ true → C) → (b ≡ false → C) → C
-test true f g = f refl
-test false f g = g refl
-
--- by the side of a sum, the sum first
-pub either : {A B C : Type 0} → A ⊎ B → (A → C) → (B → C) → C
-either (inl a) f g = f a
-either (inr b) f g = g b
 
 -- -- The gap, over the naturals
 
@@ -69,6 +58,7 @@ pub data Side (negative : Bool) (n d : ℕ) (z : ℤ) : Type 0 where
   along : (m : ℕ) → z ≡ signed negative m → gap negative n d z ≡ distance (d * m) n → Side negative n d z
   against : (m : ℕ) → gap negative n d z ≡ d * suc m + n → Side negative n d z
 
+-- every whole number is one of the two
 pub side : (negative : Bool) (n d : ℕ) (z : ℤ) → Side negative n d z
 side true n d (pos zero) = along 0 refl (gap-along true n d 0)
 side true n d (pos (suc m)) = against m (gap-against true n d (suc m))
@@ -164,7 +154,7 @@ module _ (negative : Bool) (n d : ℕ) (h : 0 < d) where
       half apart = omega (arith, nearest-within-half y .0 near, nearest-within-half z .0 near′)
 
   -- a nearest number has the value's sign, and its magnitude is at most the closed form
-  nearest-along : (z : ℤ) → Nearest negative n d z → (m : ℕ) × (z ≡ signed negative m) × (m ≤ nearest n d)
+  pub nearest-along : (z : ℤ) → Nearest negative n d z → (m : ℕ) × (z ≡ signed negative m) × (m ≤ nearest n d)
   nearest-along z near = go (side negative n d z)
     where
       half : 2 * gap negative n d z ≤ d

@@ -4,12 +4,13 @@ use mathlib.Core.Path.{_≡_}
 use mathlib.Core.Logic.{_↔_}
 use Prim.Native.Nat.{ℕ, _*_, _^_}
 use native.Mathlib.Omega.{arith}
-use lib.Dec.{ltb, lit<}
+use lib.Dec.{ltb, lit<, le→leb}
 use lib.IntN.{ℤ, pos}
-use Rattle.units.specs.Rounding.{distance, Nearest, Half, AwayFromZero}
+use lib.Signed.{_≤ℤ_}
+use Rattle.units.specs.Rounding.{distance, Nearest, Half, AwayFromZero, nearest}
 use Rattle.units.specs.Float.{negative, magnitude}
 use Rattle.units.specs.Units.{centidegreesOf, accuracyMillimetres, millimetresOf}
-use Rattle.units.proofs.Rounding.{nearest-is-nearest, nearest-unique, rounds-exactly}
+use Rattle.units.proofs.Rounding.{nearest-is-nearest, nearest-unique, nearest-along, rounds-exactly}
 
 -- 1800 (c - 144) / 11 is never exactly between two whole numbers: a tie can't occur
 pub phase-no-half : (c : ℕ) → Half (1800 * distance c 144) 11 → ⊥
@@ -28,6 +29,13 @@ phase-nearest c z =
 pub accuracy-nearest : (tenths : ℕ) (z : ℤ) → (Nearest false tenths 10 z × AwayFromZero false tenths 10 z) ↔ (z ≡ pos (accuracyMillimetres tenths))
 unfolding accuracyMillimetres
 accuracy-nearest tenths z = rounds-exactly false tenths 10 (lit< tt) z
+
+-- halves up: of all whole numbers nearest to tenths / 10 it is the greatest
+pub accuracy-up : (tenths : ℕ) (y : ℤ) → Nearest false tenths 10 y → y ≤ℤ pos (accuracyMillimetres tenths)
+unfolding accuracyMillimetres
+accuracy-up tenths y near =
+    let a = nearest-along false tenths 10 (lit< tt) y near in
+    rw (a .1) record { le = le→leb (a .0) (nearest tenths 10) (a .2) }
 
 -- a coordinate's millimetres are the nearest whole number to 1000 times its exact value, halves away from zero
 pub millimetres-nearest : (bits : ℕ) (z : ℤ) → (Nearest (negative bits) (1000 * magnitude bits) (2 ^ 150) z × AwayFromZero (negative bits) (1000 * magnitude bits) (2 ^ 150) z) ↔ (z ≡ millimetresOf bits)

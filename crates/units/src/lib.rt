@@ -1,11 +1,11 @@
 // The number rules: what characters, accuracies and coordinates mean.
 // Sign and magnitude stay apart up to `signed_quantity`; the magnitudes are whole numbers, so no rounding but ours takes place.
-ghost use Prim.Native.Nat.{ℕ, _+_, _-_, _*_, _/_, _%_, _^_, _<_, _≤_};
+ghost use Prim.Native.Nat.{_*_, _^_, _<_, _≤_};
 ghost use mathlib.Core.Path.{_≡_};
-ghost use lib.Dec.{ltb, eqb};
+ghost use lib.Dec.{ltb};
 ghost use Rattle.digits.specs.Bytes.{isCharacter};
 ghost use Rattle.units.specs.Rounding.{distance, signed, nearest};
-ghost use Rattle.units.specs.Float.{negative, exponent, fraction, significand, scale, notFinite};
+ghost use Rattle.units.specs.Float.{negative, exponent, significand, scale};
 ghost use Rattle.units.specs.Units.{value, refused, decibels, centidegrees, accuracyMillimetres, millimetres};
 
 // Refusals (paper 01, "Refusal numbers").
