@@ -47,7 +47,7 @@ const LIMIT_SCALE: u32 = 136;
 
 const LIMIT_SIGNIFICAND: u32 = 16384000;
 
-const MILLIMETRES: u64 = 1000;
+const MILLIMETRES_IN_METRE: u64 = 1000;
 
 // A value, or the refusal number with the value 0.
 pub struct Quantity {
@@ -207,7 +207,7 @@ pub fn coordinate_to_millimetres(bits: u32) -> Quantity
     if too_far(m, t) {
         return refusal_of(TOO_FAR);
     }
-    let n = MILLIMETRES * (m as u64);
+    let n = MILLIMETRES_IN_METRE * (m as u64);
     let k = ONE_SCALE - t;
     let whole = rounded_shift(n, k) as u32;
     signed_quantity(bits >> 31 == 1, whole)
