@@ -5,6 +5,9 @@ ghost use mathlib.Core.List.{[], _∷_};
 ghost use Rattle.digits.specs.LittleEndian.{fromLittle, wordAt};
 ghost use Rattle.digits.specs.Stores.{wordStored};
 
+// The refusal of every writer whose output is too short (paper 01, "Refusal numbers").
+pub const OUTPUT_TOO_SHORT: u32 = 51;
+
 // What a writer answers: the refusal number (0: none) and the bytes produced.
 pub struct Written {
     pub refusal: u32,

@@ -1,0 +1,4 @@
+pub mod RuleLaws
+pub mod WordLaws
+pub mod ReadingLaws
+pub mod WritingLaws

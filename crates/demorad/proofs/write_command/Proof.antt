@@ -1,0 +1,56 @@
+use mathlib.Core.Path.{_≡_, _∙_, sym, ap}
+use native.Mathlib.Omega.{arith}
+use lib.ListN.{length}
+use Rattle.digits.proofs.StoreLaws.{unfit, short, done, length-word-stored}
+use Rattle.demorad.specs.Rules.{legality}
+use Rattle.demorad.specs.Image.{commandBytes}
+use Rattle.demorad.proofs.RuleLaws.{is-legal}
+use Rattle.demorad.proofs.WritingLaws.{length-command, put-command}
+use borrow.Author.Needs.{needs}
+use Rattle.demorad.proofs.write_command.Statement.{statement}
+use Rattle.demorad.proofs.write_command.Tie as tie
+
+legal-requires : tie.Need-legal-requires
+legal-requires c κs = search needs
+
+returns : tie.Need-returns
+returns c = let a = c .before .before .before .args in rw (← c .before .legal .ensures .0) (unfit _ _ _ (c .if1 .taken))
+
+add-size : tie.Need-add-size
+add-size c = search needs
+
+mul-size : tie.Need-mul-size
+mul-size c = search needs
+
+returns-2 : tie.Need-returns-2
+returns-2 c = let a = c .before .before .before .before .args in let ok : legality (a .code) (a .count) (a .words) ≡ 0 = sym (c .before .before .legal .ensures .0) ∙ c .before .if1 .left in let b = is-legal (a .code) (a .count) (a .words) ok in let t = c .before .before .legal .ensures .1 in let s = length-command (a .rd) (a .code) (a .count) (a .words) (omega arith) in short _ (commandBytes (a .rd) (a .code) (a .count) (a .words)) (a .out .now) ok (omega arith)
+
+header-word-requires : tie.Need-header-word-requires
+header-word-requires c κs = let a = c .before .before .before .before .args in let ok : legality (a .code) (a .count) (a .words) ≡ 0 = sym (c .before .before .legal .ensures .0) ∙ c .before .if1 .left in let b = is-legal (a .code) (a .count) (a .words) ok in (b .small, b .few)
+
+put-word-requires : tie.Need-put-word-requires
+put-word-requires c κs = search needs
+
+put-payload-requires : tie.Need-put-payload-requires
+put-payload-requires c κs = let a = c .before .before .before .before .before .before .before .before .before .before .args in let ok : legality (a .code) (a .count) (a .words) ≡ 0 = sym (c .before .before .before .before .before .before .before .before .legal .ensures .0) ∙ c .before .before .before .before .before .before .before .if1 .left in let b = is-legal (a .code) (a .count) (a .words) ok in let e : length (c .before .before .before .put-word .last .0) ≡ length (a .out .now) = ap length (c .before .before .before .put-word .ensures) ∙ length-word-stored (a .out .now) 0 (c .before .before .before .before .before .header-word .result) in (b .few, omega arith)
+
+same-length : tie.Need-same-length
+same-length c = search needs
+
+returns-3 : tie.Need-returns-3
+returns-3 c = let a = c .before .before .before .before .before .before .before .before .before .before .before .before .before .args in let ok : legality (a .code) (a .count) (a .words) ≡ 0 = sym (c .before .before .before .before .before .before .before .before .before .before .before .legal .ensures .0) ∙ c .before .before .before .before .before .before .before .before .before .before .if1 .left in let b = is-legal (a .code) (a .count) (a .words) ok in let t = c .before .before .before .before .before .before .before .before .before .before .before .legal .ensures .1 in let s = length-command (a .rd) (a .code) (a .count) (a .words) (omega arith) in done _ (commandBytes (a .rd) (a .code) (a .count) (a .words)) (a .out .now) _ _ ok s (omega arith) (put-command (a .rd) (a .code) (a .count) (c .before .before .before .before .before .before .before .before .header-word .result) (a .words) (a .out .now) _ _ (omega arith) (c .before .before .before .before .before .before .before .before .header-word .ensures) (c .before .before .before .before .before .before .put-word .ensures) (c .before .before .put-payload .ensures))
+
+pub write-command-spec : {M : Type 1} → statement M
+write-command-spec =
+    tie.close
+    (tie.spec
+    legal-requires
+    returns
+    add-size
+    mul-size
+    returns-2
+    header-word-requires
+    put-word-requires
+    put-payload-requires
+    same-length
+    returns-3)

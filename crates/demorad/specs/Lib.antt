@@ -1,0 +1,4 @@
+pub mod Rules
+pub mod Image
+pub mod Reading
+pub mod Refusals
