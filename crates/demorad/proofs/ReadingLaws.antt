@@ -24,7 +24,7 @@ module _ (bs : List ℕ) where
     rest : 4 ≤ length bs → (restOf (headerOf bs) ≡ 0 → ⊥) → Framing 41
     empty : 4 ≤ length bs → restOf (headerOf bs) ≡ 0 → lengthOf (headerOf bs) ≡ 0 → Framing 42
     size : 4 ≤ length bs → restOf (headerOf bs) ≡ 0 → (lengthOf (headerOf bs) ≡ 0 → ⊥) → (length bs ≡ 4 * lengthOf (headerOf bs) → ⊥) → Framing 43
-    fine : 4 ≤ length bs → restOf (headerOf bs) ≡ 0 → (lengthOf (headerOf bs) ≡ 0 → ⊥) → length bs ≡ 4 * lengthOf (headerOf bs) → Framing 0
+    framed : 4 ≤ length bs → restOf (headerOf bs) ≡ 0 → (lengthOf (headerOf bs) ≡ 0 → ⊥) → length bs ≡ 4 * lengthOf (headerOf bs) → Framing 0
 
   pub framing-short : length bs < 4 → _≡_ {A = ℕ} 40 (framing bs)
   unfolding framing
@@ -59,7 +59,7 @@ module _ (bs : List ℕ) where
       go (yes l) (no r) n s = subst Framing (framing-rest l r) (rest l r)
       go (yes l) (yes r) (yes n) s = subst Framing (framing-empty l r n) (empty l r n)
       go (yes l) (yes r) (no n) (no s) = subst Framing (framing-size l r n s) (size l r n s)
-      go (yes l) (yes r) (no n) (yes s) = subst Framing (framing-fine l r n s) (fine l r n s)
+      go (yes l) (yes r) (no n) (yes s) = subst Framing (framing-fine l r n s) (framed l r n s)
 
 -- the same from what the code has at hand
 module _ (bs : List ℕ) (header rest : ℕ) (there : 4 ≤ length bs) (head : header ≡ headerOf bs) (rested : rest ≡ restOf header) where
@@ -98,7 +98,7 @@ is-framed bs h = go (framing-view bs) h
     go (rest l r) e = absurd (omega arith)
     go (empty l r n) e = absurd (omega arith)
     go (size l r n s) e = absurd (omega arith)
-    go (fine l r n s) e = record { there = l; rest = r; some = omega arith; size = s }
+    go (framed l r n s) e = record { there = l; rest = r; some = omega arith; size = s }
 
 -- -- The payload loop: what is stored, then the words that are left
 
@@ -135,7 +135,7 @@ unfolding readCommand readRefusal
 read-unframed bs r e n = rw (← e, ne-eqb r 0 n, ne-eqb r 0 n)
 
 module _ (bs : List ℕ) (header code count illegal : ℕ) (words : List ℕ)
-    (framed : framing bs ≡ 0) (head : header ≡ headerOf bs) (coded : code ≡ codeOf header) (counted : count ≡ lengthOf header - 1)
+    (well : framing bs ≡ 0) (head : header ≡ headerOf bs) (coded : code ≡ codeOf header) (counted : count ≡ lengthOf header - 1)
     (paid : words ≡ padded (wordsOf count (drop 4 bs))) (judged : illegal ≡ legality code count words) where
   refusal-is : illegal ≡ readRefusal bs
   unfolding readRefusal
@@ -143,7 +143,7 @@ module _ (bs : List ℕ) (header code count illegal : ℕ) (words : List ℕ)
       let c : count ≡ countOf bs = counted ∙ ap (λ (h : ℕ). lengthOf h - 1) head in
       let d : code ≡ codeOf (headerOf bs) = coded ∙ ap codeOf head in
       let p : words ≡ padded (payloadOf bs) = paid ∙ ap (λ (n : ℕ). padded (wordsOf n (drop 4 bs))) c in
-      judged ∙ rw (c, d, p, legality-padded (codeOf (headerOf bs)) (countOf bs) (payloadOf bs), eq-eqb (framing bs) 0 framed)
+      judged ∙ rw (c, d, p, legality-padded (codeOf (headerOf bs)) (countOf bs) (payloadOf bs), eq-eqb (framing bs) 0 well)
 
   -- refused by 44 to 46
   pub read-illegal : (illegal ≡ 0 → ⊥) → refusedCommand illegal ≡ readCommand bs

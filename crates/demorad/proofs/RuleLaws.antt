@@ -8,7 +8,8 @@ use native.Mathlib.Decide.{decLe, decLt}
 use native.Mathlib.Omega.{arith}
 use borrow.Author.Tests.{le-leb, lt-leb, lt-ltb, le-ltb, eqb-true, eqb-false, ne-eqb}
 use lib.Dec.{eqb, ltb}
-use lib.ListN.{getD}
+use lib.ListN.{getD, take}
+use lib.Seq.{getD-take}
 use Rattle.digits.specs.Bytes.{within}
 use Rattle.digits.proofs.Choices.{test, both-ways}
 use Rattle.demorad.specs.Rules.{unlisted, rules, lookup, ruleOf, judged, legality, maxPayload}
@@ -35,6 +36,13 @@ every P code (row ∷ rows) u (h, hs) = chosen P (eqb code (row .0)) (row .1) (l
 pub place-small : (code : ℕ) → ruleOf code .place < 2
 unfolding ruleOf Every
 place-small code = every (λ r. r .place < 2) code rules (omega arith) (omega arith, (omega arith, (omega arith, (omega arith, (omega arith, (omega arith, (omega arith, tt)))))))
+
+-- a selection is among the fewest words of its code
+pub place-counted : (code : ℕ) → ruleOf code .selects ≡ true → ruleOf code .place < ruleOf code .least
+unfolding ruleOf Every
+place-counted code =
+    every (λ r. r .selects ≡ true → r .place < r .least) code rules (λ s. both-ways false s refl)
+    (λ s. both-ways false s refl, (λ s. omega arith, (λ s. omega arith, (λ s. both-ways false s refl, (λ s. both-ways false s refl, (λ s. both-ways false s refl, (λ s. omega arith, tt)))))))
 
 -- no code has more than 30 payload words
 pub most-small : (code : ℕ) → ruleOf code .most ≤ 30
@@ -177,3 +185,27 @@ is-legal code count words h = go (verdict (ruleOf code) count words) h
     go (fine k l m s) e =
         let b = most-small code in
         record { known = k; small = known-small code k; least = l; most = m; few = omega arith; chosen = s }
+
+pub legal-is : (code count : ℕ) (words : List ℕ) → Legal code count words → legality code count words ≡ 0
+unfolding legality
+legal-is code count words l =
+    test (ruleOf code .selects)
+    (λ s. sym (judged-in (ruleOf code) count words (l .known) (l .least) (l .most) s (l .chosen s)))
+    (λ s. sym (judged-free (ruleOf code) count words (l .known) (l .least) (l .most) s))
+
+-- words behind the count do not matter
+pub legal-take : (code count : ℕ) (words : List ℕ) → legality code count words ≡ 0 → legality code count (take count words) ≡ 0
+legal-take code count words h =
+    let l = is-legal code count words h in
+    legal-is code count (take count words)
+    (record {
+      known = l .known;
+      small = l .small;
+      least = l .least;
+      most = l .most;
+      few = l .few;
+      chosen = λ s.
+          let p = place-counted code s in
+          let q = l .least in
+          rw (getD-take count words (ruleOf code .place) 0 (omega arith)) (l .chosen s);
+    })

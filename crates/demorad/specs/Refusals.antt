@@ -5,7 +5,7 @@ use mathlib.Core.List.{List, [], _∷_}
 use mathlib.Core.Logic.{_⊎_}
 use Prim.Native.Nat.{ℕ, _+_, _*_, _<_, _≤_}
 use lib.ListN.{length, getD}
-use Rattle.demorad.specs.Rules.{maxPayload, rules, ruleOf}
+use Rattle.demorad.specs.Rules.{maxPayload, rules}
 use Rattle.demorad.specs.Image.{commandBytes}
 use Rattle.demorad.specs.Reading.{bits, headerOf, lengthOf, codeOf, countOf, payloadOf}
 use Rattle.demorad.specs.declared.Rule.{Rule}
@@ -23,33 +23,34 @@ Listed code rule (row ∷ rows) = ((code ≡ row .0) × (rule ≡ row .1)) ⊎ L
 -- when a command is illegal, with the number (paper 01, "Refusal numbers")
 pub data Illegal (code count : ℕ) (words : List ℕ) : ℕ → Type 0 where
   -- unknown code
-  unknown : Absent code rules → Illegal code count words 44
+  unknown-code : Absent code rules → Illegal code count words 44
   -- payload count wrong
   too-few : (rule : Rule) → Listed code rule rules → count < rule .least → Illegal code count words 45
   too-many : (rule : Rule) → Listed code rule rules → rule .most < count → Illegal code count words 45
   -- payload count over 30
-  over : maxPayload < count → Illegal code count words 45
+  over-thirty : maxPayload < count → Illegal code count words 45
   -- selection out of range
-  selection : (rule : Rule) → Listed code rule rules → rule .selects ≡ true → rule .top < getD words (rule .place) 0 → Illegal code count words 46
+  wrong-selection : (rule : Rule) → Listed code rule rules → rule .selects ≡ true → rule .top < getD words (rule .place) 0 → Illegal code count words 46
 
 -- when bytes are no command, with the number (paper 01, "Refusal numbers")
 pub data Unreadable (bs : List ℕ) : ℕ → Type 0 where
   -- under 4 bytes
-  short : length bs < 4 → Unreadable bs 40
+  too-short : length bs < 4 → Unreadable bs 40
   -- a rest bit set: one of the bits 21 to 30
-  rest : (i : ℕ) → 21 ≤ i → i ≤ 30 → bits i 1 (headerOf bs) ≡ 1 → Unreadable bs 41
+  rest-bit : (i : ℕ) → 21 ≤ i → i ≤ 30 → bits i 1 (headerOf bs) ≡ 1 → Unreadable bs 41
   -- length 0
-  empty : lengthOf (headerOf bs) ≡ 0 → Unreadable bs 42
+  no-length : lengthOf (headerOf bs) ≡ 0 → Unreadable bs 42
   -- byte count not four times the length
-  size : (length bs ≡ 4 * lengthOf (headerOf bs) → ⊥) → Unreadable bs 43
+  wrong-size : (length bs ≡ 4 * lengthOf (headerOf bs) → ⊥) → Unreadable bs 43
   -- code, payload count or selection
-  illegal : {n : ℕ} → Illegal (codeOf (headerOf bs)) (countOf bs) (payloadOf bs) n → Unreadable bs n
+  illegal-read : {n : ℕ} → Illegal (codeOf (headerOf bs)) (countOf bs) (payloadOf bs) n → Unreadable bs n
 
--- when a command cannot be written into a buffer, with the number
+-- when a command cannot be written into the buffer, with the number (paper 01, "Refusal numbers")
 pub data Unwritable (rd : Bool) (code count : ℕ) (words out : List ℕ) : ℕ → Type 0 where
-  illegal : {n : ℕ} → Illegal code count words n → Unwritable rd code count words out n
+  -- code, payload count or selection
+  illegal-write : {n : ℕ} → Illegal code count words n → Unwritable rd code count words out n
   -- output too short
-  full : length out < length (commandBytes rd code count words) → Unwritable rd code count words out 51
+  no-room : length out < length (commandBytes rd code count words) → Unwritable rd code count words out 51
 
 -- r is the first number whose condition holds, 0 exactly if none holds
 pub record First (condition : ℕ → Type 0) (r : ℕ) : Type 0 where

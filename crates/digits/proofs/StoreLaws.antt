@@ -4,6 +4,7 @@ use mathlib.Core.List.{List, [], _∷_, _++_, append-nil}
 use Prim.Native.Nat.{ℕ, zero, suc, _+_, _*_, _/_, _%_, _^_, _<_, _≤_}
 use native.Mathlib.Nat.{add-zero, zero-add}
 use native.Mathlib.Numerals.{add-one, add-two, add-three}
+use native.Mathlib.Decide.{decLe, ℕ-discrete}
 use native.Mathlib.Omega.{arith}
 use borrow.Author.Tests.{le-leb, lt-leb, eq-eqb, ne-eqb}
 use lib.Dec.{leb}
@@ -114,3 +115,49 @@ done refusal bytes out after n h e k s =
       answers = rw (eq-eqb refusal 0 h, le-leb (length bytes) (length out) (omega arith), e);
       leaves = s ∙ rw (eq-eqb refusal 0 h, le-leb (length bytes) (length out) (omega arith));
     }
+
+-- -- What an answer says
+
+-- a writer that does not refuse: its values were fine, the bytes fitted, and they come first at exit while all behind them stay
+pub record Succeeded (refusal : ℕ) (bytes out : List ℕ) (r : Written) (after : List ℕ) : Type 0 where
+  pub fine : refusal ≡ 0
+  pub fits : length bytes ≤ length out
+  pub size : r .size ≡ length bytes
+  pub buffer : after ≡ bytes ++ drop (length bytes) out
+
+-- the same from the promise
+pub succeeded : (refusal : ℕ) (bytes out : List ℕ) (r : Written) (after : List ℕ) → Writes refusal bytes out r after → r .refusal ≡ 0 → Succeeded refusal bytes out r after
+succeeded refusal bytes out r after w z = go (ℕ-discrete refusal 0) (decLe (length bytes) (length out))
+  where
+    number : r .refusal ≡ writerAnswer refusal bytes out .refusal
+    number = ap (λ (a : Written). a .refusal) (w .answers)
+
+    go : Dec (refusal ≡ 0) → Dec (length bytes ≤ length out) → Succeeded refusal bytes out r after
+    go (yes e) (yes l) =
+        record {
+          fine = e;
+          fits = l;
+          size = ap (λ (a : Written). a .size) (w .answers) ∙ rw (eq-eqb refusal 0 e, le-leb (length bytes) (length out) l);
+          buffer = w .leaves ∙ rw (eq-eqb refusal 0 e, le-leb (length bytes) (length out) l) (stored-start out bytes l);
+        }
+    go (yes e) (no l) =
+        let n : r .refusal ≡ 51 = number ∙ rw (eq-eqb refusal 0 e, lt-leb (length bytes) (length out) (omega arith)) in
+        absurd (omega arith)
+    go (no e) l =
+        let n : r .refusal ≡ refusal = number ∙ rw (ne-eqb refusal 0 e) in
+        absurd (e (sym n ∙ z))
+
+-- a writer that refuses changes nothing and counts no byte
+pub refused : (refusal : ℕ) (bytes out : List ℕ) (r : Written) (after : List ℕ) → Writes refusal bytes out r after → (r .refusal ≡ 0 → ⊥) → (after ≡ out) × (r .size ≡ 0)
+refused refusal bytes out r after w z = go (ℕ-discrete refusal 0) (decLe (length bytes) (length out))
+  where
+    number : r .refusal ≡ writerAnswer refusal bytes out .refusal
+    number = ap (λ (a : Written). a .refusal) (w .answers)
+
+    go : Dec (refusal ≡ 0) → Dec (length bytes ≤ length out) → (after ≡ out) × (r .size ≡ 0)
+    go (yes e) (yes l) = absurd (z (number ∙ rw (eq-eqb refusal 0 e, le-leb (length bytes) (length out) l)))
+    go (yes e) (no l) = (
+      w .leaves ∙ rw (eq-eqb refusal 0 e, lt-leb (length bytes) (length out) (omega arith)),
+      ap (λ (a : Written). a .size) (w .answers) ∙ rw (eq-eqb refusal 0 e, lt-leb (length bytes) (length out) (omega arith)),
+    )
+    go (no e) l = (w .leaves ∙ rw (ne-eqb refusal 0 e), ap (λ (a : Written). a .size) (w .answers) ∙ rw (ne-eqb refusal 0 e))
