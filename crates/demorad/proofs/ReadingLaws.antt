@@ -127,7 +127,7 @@ payload-ends n i at bs words all e inv = let z : n - i ≡ 0 = omega arith in rw
 -- the unused words do not count
 pub legality-padded : (code count : ℕ) (ws : List ℕ) → legality code count (padded ws) ≡ legality code count ws
 unfolding legality
-legality-padded code count ws = rw (getD-padded ws (ruleOf code .place))
+legality-padded code count ws = rw (getD-padded ws (ruleOf code .index))
 
 -- refused by 40 to 43
 pub read-unframed : (bs : List ℕ) (r : ℕ) → r ≡ framing bs → (r ≡ 0 → ⊥) → refusedCommand r ≡ readCommand bs

@@ -33,15 +33,15 @@ every P code [] u h = u
 every P code (row ∷ rows) u (h, hs) = chosen P (eqb code (row .0)) (row .1) (lookup code rows) h (every P code rows u hs)
 
 -- a selection is one of the first two payload words
-pub place-small : (code : ℕ) → ruleOf code .place < 2
+pub index-small : (code : ℕ) → ruleOf code .index < 2
 unfolding ruleOf Every
-place-small code = every (λ r. r .place < 2) code rules (omega arith) (omega arith, (omega arith, (omega arith, (omega arith, (omega arith, (omega arith, (omega arith, tt)))))))
+index-small code = every (λ r. r .index < 2) code rules (omega arith) (omega arith, (omega arith, (omega arith, (omega arith, (omega arith, (omega arith, (omega arith, tt)))))))
 
 -- a selection is among the fewest words of its code
-pub place-counted : (code : ℕ) → ruleOf code .selects ≡ true → ruleOf code .place < ruleOf code .least
+pub index-counted : (code : ℕ) → ruleOf code .selects ≡ true → ruleOf code .index < ruleOf code .least
 unfolding ruleOf Every
-place-counted code =
-    every (λ r. r .selects ≡ true → r .place < r .least) code rules (λ s. both-ways false s refl)
+index-counted code =
+    every (λ r. r .selects ≡ true → r .index < r .least) code rules (λ s. both-ways false s refl)
     (λ s. both-ways false s refl, (λ s. omega arith, (λ s. omega arith, (λ s. both-ways false s refl, (λ s. both-ways false s refl, (λ s. both-ways false s refl, (λ s. omega arith, tt)))))))
 
 -- no code has more than 30 payload words
@@ -104,7 +104,7 @@ known-small code h = listed-rule code (ruleOf code) (known-listed code rules h) 
 
 -- the word that a rule selects by
 abbrev pub selected : Rule → List ℕ → ℕ
-selected rule words = getD words (rule .place) 0
+selected rule words = getD words (rule .index) 0
 
 module _ (rule : Rule) (count : ℕ) (words : List ℕ) where
   -- what a verdict says
@@ -205,7 +205,7 @@ legal-take code count words h =
       most = l .most;
       few = l .few;
       chosen = λ s.
-          let p = place-counted code s in
+          let p = index-counted code s in
           let q = l .least in
-          rw (getD-take count words (ruleOf code .place) 0 (omega arith)) (l .chosen s);
+          rw (getD-take count words (ruleOf code .index) 0 (omega arith)) (l .chosen s);
     })

@@ -91,7 +91,7 @@ getD-append-zeros [] n i = getD-zeros n i
 getD-append-zeros (w ∷ ws) n zero = refl
 getD-append-zeros (w ∷ ws) n (suc i) = getD-append-zeros ws n i
 
--- a word at any place is the same, 0 behind the count
+-- the word at any index is the same, 0 behind the count
 pub getD-padded : (ws : List ℕ) (i : ℕ) → getD (padded ws) i 0 ≡ getD ws i 0
 unfolding padded
 getD-padded ws i = getD-append-zeros ws (30 - length ws) i

@@ -45,15 +45,15 @@ maxPayload = 30
 
 -- from least to most payload words of any value
 abbrev pub counts : ℕ → ℕ → Rule
-counts least most = record { known = true; least = least; most = most; selects = false; place = 0; top = 0 }
+counts least most = record { known = true; least = least; most = most; selects = false; index = 0; top = 0 }
 
--- from least to most payload words, of which word place, counted from 0, is a selection from 0 to top
+-- from least to most payload words, of which word index, counted from 0, is a selection from 0 to top
 abbrev pub selects : ℕ → ℕ → ℕ → ℕ → Rule
-selects least most place top = record { known = true; least = least; most = most; selects = true; place = place; top = top }
+selects least most index top = record { known = true; least = least; most = most; selects = true; index = index; top = top }
 
 -- a code that document 001 does not list
 abbrev pub unlisted : Rule
-unlisted = record { known = false; least = 0; most = maxPayload; selects = false; place = 0; top = 0 }
+unlisted = record { known = false; least = 0; most = maxPayload; selects = false; index = 0; top = 0 }
 
 -- the rules (paper 01, "DemoRad"; document 001, tables 7 to 16)
 abbrev pub rules : List (ℕ × Rule)
@@ -83,7 +83,7 @@ abbrev pub judged : Rule → ℕ → List ℕ → ℕ
 judged rule count words =
     cond (not (rule .known)) 44
     (cond (not (within (rule .least) (rule .most) count)) 45
-    (cond (rule .selects && ltb (rule .top) (getD words (rule .place) 0)) 46 0))
+    (cond (rule .selects && ltb (rule .top) (getD words (rule .index) 0)) 46 0))
 
 -- the refusal of a command by its code, payload count and words; 0 for none
 unfoldable pub legality : ℕ → ℕ → List ℕ → ℕ

@@ -59,13 +59,13 @@ pub struct Command {
     pub words: [u32; 30],
 }
 
-// What a code allows: its fewest and most payload words, and where it selects, that payload word `place` (from 0) is at most `top`.
+// What a code allows: its fewest and most payload words, and where it selects, that payload word `index` (from 0) is at most `top`.
 struct Rule {
     known: bool,
     least: u32,
     most: u32,
     selects: bool,
-    place: usize,
+    index: usize,
     top: u32,
 }
 
@@ -79,20 +79,20 @@ fn counted(least: u32, most: u32) -> Rule
         least,
         most,
         selects: false,
-        place: 0,
+        index: 0,
         top: 0,
     }
 }
 
-fn selecting(least: u32, most: u32, place: usize, top: u32) -> Rule
-    ensures { λ r. ⌜ r ≡ selects least most place top ⌝ }
+fn selecting(least: u32, most: u32, index: usize, top: u32) -> Rule
+    ensures { λ r. ⌜ r ≡ selects least most index top ⌝ }
 {
     Rule {
         known: true,
         least,
         most,
         selects: true,
-        place,
+        index,
         top,
     }
 }
@@ -105,7 +105,7 @@ fn unknown() -> Rule
         least: 0,
         most: MAX_PAYLOAD,
         selects: false,
-        place: 0,
+        index: 0,
         top: 0,
     }
 }
@@ -145,8 +145,8 @@ fn legal(code: u32, count: u32, words: [u32; 30]) -> u32
     if !selects {
         return 0;
     }
-    let place = rule.place;
-    if rule.top < words[place] {
+    let index = rule.index;
+    if rule.top < words[index] {
         return WRONG_SELECTION;
     }
     0

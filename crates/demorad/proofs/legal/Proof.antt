@@ -3,7 +3,7 @@ use Prim.Native.Nat.{ℕ}
 use native.Mathlib.Omega.{arith}
 use borrow.Author.Tests.{not-true, not-false}
 use Rattle.demorad.specs.declared.Rule.{Rule}
-use Rattle.demorad.proofs.RuleLaws.{by-rule, place-small, judged-unknown, judged-few, judged-many, judged-free, judged-out, judged-in}
+use Rattle.demorad.proofs.RuleLaws.{by-rule, index-small, judged-unknown, judged-few, judged-many, judged-free, judged-out, judged-in}
 use borrow.Author.Needs.{needs}
 use Rattle.demorad.proofs.legal.Statement.{statement}
 use Rattle.demorad.proofs.legal.Tie as tie
@@ -24,10 +24,10 @@ returns-4 : tie.Need-returns-4
 returns-4 c = let a = c .before .before .before .before .before .before .before .args in (by-rule (a .code) (a .count) (a .t3) (c .before .before .before .before .before .before .rule-of .result) 0 (c .before .before .before .before .before .before .rule-of .ensures) (judged-free (c .before .before .before .before .before .before .rule-of .result) (a .count) (a .t3) (not-false _ (c .before .before .before .before .before .if1 .left)) (omega arith) (omega arith) (not-true _ (c .if4 .taken))), search needs)
 
 mul-if5 : tie.Need-mul-if5
-mul-if5 c = let p = place-small (c .before .before .before .before .before .before .before .args .code) in let e = ap (λ (r : Rule). r .place) (c .before .before .before .before .before .before .rule-of .ensures) in omega arith
+mul-if5 c = let p = index-small (c .before .before .before .before .before .before .before .args .code) in let e = ap (λ (r : Rule). r .index) (c .before .before .before .before .before .before .rule-of .ensures) in omega arith
 
 array-read-if5 : tie.Need-array-read-if5
-array-read-if5 c = let p = place-small (c .before .before .before .before .before .before .before .args .code) in let e = ap (λ (r : Rule). r .place) (c .before .before .before .before .before .before .rule-of .ensures) in omega arith
+array-read-if5 c = let p = index-small (c .before .before .before .before .before .before .before .args .code) in let e = ap (λ (r : Rule). r .index) (c .before .before .before .before .before .before .rule-of .ensures) in omega arith
 
 returns-5 : tie.Need-returns-5
 returns-5 c = let a = c .before .before .before .before .before .before .before .before .before .args in (by-rule (a .code) (a .count) (a .t3) (c .before .before .before .before .before .before .before .before .rule-of .result) 46 (c .before .before .before .before .before .before .before .before .rule-of .ensures) (judged-out (c .before .before .before .before .before .before .before .before .rule-of .result) (a .count) (a .t3) (not-false _ (c .before .before .before .before .before .before .before .if1 .left)) (omega arith) (omega arith) (not-false _ (c .before .before .if4 .left)) (c .if5 .taken)), search needs)
