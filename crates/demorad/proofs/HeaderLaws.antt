@@ -36,20 +36,23 @@ module _ (code count : ℕ) (c : code < 65536) (n : count ≤ 30) where
   unfolding headerWord
   header-small rd = small-at (flagBit rd) (flag-small rd)
 
-  -- its fields are the values
+  -- RD
   pub header-rd : (rd : Bool) → rdOf (headerWord rd code count) ≡ rd
   unfolding headerWord
   header-rd true = eq-eqb (bits 31 1 (1 * 2 ^ 31 + (count + 1) * 2 ^ 16 + code)) 1 (rd-at 1 (omega arith))
   header-rd false = ne-eqb (bits 31 1 (0 * 2 ^ 31 + (count + 1) * 2 ^ 16 + code)) 1 (λ z. let e = rd-at 0 (omega arith) in omega arith)
 
+  -- the rest bits are 0
   pub header-rest : (rd : Bool) → restOf (headerWord rd code count) ≡ 0
   unfolding headerWord
   header-rest rd = rest-at (flagBit rd) (flag-small rd)
 
+  -- the length counts the header
   pub header-length : (rd : Bool) → lengthOf (headerWord rd code count) ≡ count + 1
   unfolding headerWord
   header-length rd = length-at (flagBit rd) (flag-small rd)
 
+  -- the code
   pub header-code : (rd : Bool) → codeOf (headerWord rd code count) ≡ code
   unfolding headerWord
   header-code rd = code-at (flagBit rd) (flag-small rd)

@@ -26,24 +26,29 @@ module _ (bs : List ℕ) where
     size : 4 ≤ length bs → restOf (headerOf bs) ≡ 0 → (lengthOf (headerOf bs) ≡ 0 → ⊥) → (length bs ≡ 4 * lengthOf (headerOf bs) → ⊥) → Framing 43
     framed : 4 ≤ length bs → restOf (headerOf bs) ≡ 0 → (lengthOf (headerOf bs) ≡ 0 → ⊥) → length bs ≡ 4 * lengthOf (headerOf bs) → Framing 0
 
+  -- 40: under 4 bytes
   pub framing-short : length bs < 4 → _≡_ {A = ℕ} 40 (framing bs)
   unfolding framing
   framing-short l = rw (lt-ltb (length bs) 4 l)
 
+  -- 41: a rest bit set
   pub framing-rest : 4 ≤ length bs → (restOf (headerOf bs) ≡ 0 → ⊥) → _≡_ {A = ℕ} 41 (framing bs)
   unfolding framing
   framing-rest l r = rw (le-ltb (length bs) 4 l, ne-eqb (restOf (headerOf bs)) 0 r)
 
+  -- 42: length 0
   pub framing-empty : 4 ≤ length bs → restOf (headerOf bs) ≡ 0 → lengthOf (headerOf bs) ≡ 0 → _≡_ {A = ℕ} 42 (framing bs)
   unfolding framing
   framing-empty l r n = rw (le-ltb (length bs) 4 l, eq-eqb (restOf (headerOf bs)) 0 r, eq-eqb (lengthOf (headerOf bs)) 0 n)
 
+  -- 43: byte count not four times the length
   pub framing-size : 4 ≤ length bs → restOf (headerOf bs) ≡ 0 → (lengthOf (headerOf bs) ≡ 0 → ⊥) → (length bs ≡ 4 * lengthOf (headerOf bs) → ⊥)
       → _≡_ {A = ℕ} 43 (framing bs)
   unfolding framing
   framing-size l r n s =
       rw (le-ltb (length bs) 4 l, eq-eqb (restOf (headerOf bs)) 0 r, ne-eqb (lengthOf (headerOf bs)) 0 n, ne-eqb (length bs) (4 * lengthOf (headerOf bs)) s)
 
+  -- 0: none of these
   pub framing-fine : 4 ≤ length bs → restOf (headerOf bs) ≡ 0 → (lengthOf (headerOf bs) ≡ 0 → ⊥) → length bs ≡ 4 * lengthOf (headerOf bs)
       → _≡_ {A = ℕ} 0 (framing bs)
   unfolding framing
@@ -61,11 +66,12 @@ module _ (bs : List ℕ) where
       go (yes l) (yes r) (no n) (no s) = subst Framing (framing-size l r n s) (size l r n s)
       go (yes l) (yes r) (no n) (yes s) = subst Framing (framing-fine l r n s) (framed l r n s)
 
--- the same from what the code has at hand
+-- the cases from what the code has at hand: its header, rest and length
 module _ (bs : List ℕ) (header rest : ℕ) (there : 4 ≤ length bs) (head : header ≡ headerOf bs) (rested : rest ≡ restOf header) where
   rest-is : rest ≡ restOf (headerOf bs)
   rest-is = rested ∙ ap restOf head
 
+  -- 41
   pub at-rest : (rest ≡ 0 → ⊥) → _≡_ {A = ℕ} 41 (framing bs)
   at-rest r = framing-rest bs there (λ z. r (rest-is ∙ z))
 
@@ -73,13 +79,16 @@ module _ (bs : List ℕ) (header rest : ℕ) (there : 4 ≤ length bs) (head : h
     length-is : n ≡ lengthOf (headerOf bs)
     length-is = counted ∙ ap lengthOf head
 
+    -- 42
     pub at-empty : n ≡ 0 → _≡_ {A = ℕ} 42 (framing bs)
     at-empty e = framing-empty bs there (sym rest-is ∙ clear) (sym length-is ∙ e)
 
     module _ (some : n ≡ 0 → ⊥) where
+      -- 43
       pub at-size : (length bs ≡ 4 * n → ⊥) → _≡_ {A = ℕ} 43 (framing bs)
       at-size s = framing-size bs there (sym rest-is ∙ clear) (λ z. some (length-is ∙ z)) (λ z. s (z ∙ ap (λ (m : ℕ). 4 * m) (sym length-is)))
 
+      -- none
       pub at-fine : length bs ≡ 4 * n → _≡_ {A = ℕ} 0 (framing bs)
       at-fine s = framing-fine bs there (sym rest-is ∙ clear) (λ z. some (length-is ∙ z)) (s ∙ ap (λ (m : ℕ). 4 * m) length-is)
 
@@ -90,6 +99,7 @@ pub record Framed (bs : List ℕ) : Type 0 where
   pub some : 1 ≤ lengthOf (headerOf bs)
   pub size : length bs ≡ 4 * lengthOf (headerOf bs)
 
+-- bytes without a refusal of 40 to 43 are well-framed
 pub is-framed : (bs : List ℕ) → framing bs ≡ 0 → Framed bs
 is-framed bs h = go (framing-view bs) h
   where

@@ -18,7 +18,7 @@ use Rattle.demorad.specs.declared.Rule.{Rule}
 
 -- -- The table
 
--- what holds of the rows and of an unlisted code holds of every code's rule
+-- every row of the table has the property
 unfoldable pub Every : (ℕ → Rule → Type 0) → List (ℕ × Rule) → Type 0
 Every P [] = Unit {0}
 Every P (row ∷ rows) = P (row .0) (row .1) × Every P rows
@@ -27,6 +27,7 @@ chosen : (P : Rule → Type 0) (t : Bool) (x y : Rule) → P x → P y → P (co
 chosen P true x y p q = p
 chosen P false x y p q = q
 
+-- what holds of the rows and of an unlisted code holds of every code's rule
 every : (P : Rule → Type 0) (code : ℕ) (rows : List (ℕ × Rule)) → P unlisted → Every (λ c r. P r) rows → P (lookup code rows)
 unfolding Every
 every P code [] u h = u
@@ -115,12 +116,15 @@ module _ (rule : Rule) (count : ℕ) (words : List ℕ) where
     out : rule .known ≡ true → rule .least ≤ count → count ≤ rule .most → rule .selects ≡ true → rule .top < selected rule words → Verdict 46
     fine : rule .known ≡ true → rule .least ≤ count → count ≤ rule .most → (rule .selects ≡ true → selected rule words ≤ rule .top) → Verdict 0
 
+  -- 44: an unknown code
   pub judged-unknown : rule .known ≡ false → _≡_ {A = ℕ} 44 (judged rule count words)
   judged-unknown k = rw k
 
+  -- 45: fewer words than the rule has
   pub judged-few : rule .known ≡ true → count < rule .least → _≡_ {A = ℕ} 45 (judged rule count words)
   judged-few k l = rw (k, lt-leb (rule .least) count l)
 
+  -- 45: more words than the rule has
   pub judged-many : rule .known ≡ true → rule .most < count → _≡_ {A = ℕ} 45 (judged rule count words)
   judged-many k m = go (decLe (rule .least) count)
     where
@@ -128,12 +132,15 @@ module _ (rule : Rule) (count : ℕ) (words : List ℕ) where
       go (yes l) = rw (k, le-leb (rule .least) count l, lt-leb count (rule .most) m)
       go (no l) = rw (k, lt-leb (rule .least) count (omega arith))
 
+  -- 0: the count fits and there is no selection
   pub judged-free : rule .known ≡ true → rule .least ≤ count → count ≤ rule .most → rule .selects ≡ false → _≡_ {A = ℕ} 0 (judged rule count words)
   judged-free k l m s = rw (k, le-leb (rule .least) count l, le-leb count (rule .most) m, s)
 
+  -- 46: the selection is above its highest value
   pub judged-out : rule .known ≡ true → rule .least ≤ count → count ≤ rule .most → rule .selects ≡ true → rule .top < selected rule words → _≡_ {A = ℕ} 46 (judged rule count words)
   judged-out k l m s o = rw (k, le-leb (rule .least) count l, le-leb count (rule .most) m, s, lt-ltb (rule .top) (selected rule words) o)
 
+  -- 0: count and selection fit
   pub judged-in : rule .known ≡ true → rule .least ≤ count → count ≤ rule .most → rule .selects ≡ true → selected rule words ≤ rule .top → _≡_ {A = ℕ} 0 (judged rule count words)
   judged-in k l m s o = rw (k, le-leb (rule .least) count l, le-leb count (rule .most) m, s, le-ltb (rule .top) (selected rule words) o)
 
@@ -173,6 +180,7 @@ pub record Legal (code count : ℕ) (words : List ℕ) : Type 0 where
   pub few : count ≤ 30
   pub chosen : ruleOf code .selects ≡ true → selected (ruleOf code) words ≤ ruleOf code .top
 
+-- a command that is not refused is legal
 pub is-legal : (code count : ℕ) (words : List ℕ) → legality code count words ≡ 0 → Legal code count words
 unfolding legality
 is-legal code count words h = go (verdict (ruleOf code) count words) h
@@ -186,6 +194,7 @@ is-legal code count words h = go (verdict (ruleOf code) count words) h
         let b = most-small code in
         record { known = k; small = known-small code k; least = l; most = m; few = omega arith; chosen = s }
 
+-- a legal command is not refused
 pub legal-is : (code count : ℕ) (words : List ℕ) → Legal code count words → legality code count words ≡ 0
 unfolding legality
 legal-is code count words l =

@@ -15,11 +15,13 @@ use Rattle.demorad.specs.Reading.{wordsOf, padded}
 
 -- -- Lengths
 
+-- n words are read
 pub length-words : (n : ℕ) (bs : List ℕ) → length (wordsOf n bs) ≡ n
 unfolding wordsOf
 length-words zero bs = refl
 length-words (suc n) bs = ap suc (length-words n (drop 4 bs))
 
+-- four bytes a word
 pub length-bytes : (ws : List ℕ) → length (wordBytes ws) ≡ 4 * length ws
 unfolding wordBytes
 length-bytes [] = refl

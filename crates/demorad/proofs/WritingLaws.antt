@@ -16,10 +16,12 @@ use Rattle.demorad.proofs.WordLaws.{length-bytes}
 
 -- -- The header
 
+-- with RD
 pub header-set : (rd : Bool) (code count : ℕ) → rd ≡ true → 2147483648 + ((count + 1) * 65536 + code) ≡ headerWord rd code count
 unfolding headerWord
 header-set rd code count e = rw e (omega arith)
 
+-- without RD
 pub header-clear : (rd : Bool) (code count : ℕ) → rd ≡ false → (count + 1) * 65536 + code ≡ headerWord rd code count
 unfolding headerWord
 header-clear rd code count e = rw e (omega arith)
@@ -47,6 +49,7 @@ put-ends n i at words out all h inv =
 
 -- -- The command
 
+-- the bytes of a command: four for the header and for each counted word
 pub length-command : (rd : Bool) (code count : ℕ) (words : List ℕ) → count ≤ length words → length (commandBytes rd code count words) ≡ 4 * (count + 1)
 unfolding commandBytes
 length-command rd code count words h =

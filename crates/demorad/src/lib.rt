@@ -229,7 +229,7 @@ fn refused(refusal: u32) -> Command
     }
 }
 
-// Reads a command from exactly these bytes.
+// Reads the command that exactly these bytes are: 05 60 02 80 01 00 00 00 gives RD, code 6005 (hex), one word, 1.
 pub fn read_command(bytes: &[u8]) -> Command
     ensures { λ r. ⌜ r ≡ readCommand (now (bytes .entry)) ⌝ }
 {
@@ -269,21 +269,22 @@ fn header_word(rd: bool, code: u32, count: u32) -> u32
     fields
 }
 
-// Lays the counted words over the buffer behind the header.
-fn put_payload(out: &mut [u8], count: usize, words: [u32; 30])
-    requires { ⌜ (count ≤ maxPayload) × (4 + 4 * count ≤ length (now out)) ⌝ }
-    ensures { λ r. ⌜ now (out .exit) ≡ stored (now (out .entry)) 4 (wordBytes (take count words)) ⌝ }
+// Lays the first n words over the buffer behind the header.
+fn put_payload(out: &mut [u8], n: usize, words: [u32; 30])
+    requires { ⌜ (n ≤ maxPayload) × (4 + 4 * n ≤ length (now out)) ⌝ }
+    ensures { λ r. ⌜ now (out .exit) ≡ stored (now (out .entry)) 4 (wordBytes (take n words)) ⌝ }
 {
     let mut at: usize = 4;
     let mut i: usize = 0;
-    while i < count {
+    while i < n {
         digits::put_word(out, at, words[i]);
         at += 4;
         i += 1;
     }
 }
 
-// Writes a command to the start of the buffer; words behind the count are ignored.
+// Writes a command to the start of the buffer: code 6005 (hex), one word, 1 and RD give 05 60 02 80 01 00 00 00.
+// Words behind the count are ignored.
 pub fn write_command(out: &mut [u8], rd: bool, code: u32, count: u32, words: [u32; 30]) -> Written
     ensures { λ r. ⌜ Writes (legality code count words) (commandBytes rd code count words) (now (out .entry)) r (now (out .exit)) ⌝ }
 {

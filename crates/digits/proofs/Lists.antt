@@ -34,17 +34,20 @@ take-four s at h = rw (drop-four s at h)
 
 -- -- Bounds on all numbers
 
+-- both parts below the bound
 pub below-append : (bound : ℕ) (xs ys : List ℕ) → Below bound xs → Below bound ys → Below bound (xs ++ ys)
 unfolding Below
 below-append bound [] ys h k = k
 below-append bound (x ∷ xs) ys (h, hs) k = (h, below-append bound xs ys hs k)
 
+-- the first n
 pub below-take : (bound n : ℕ) (xs : List ℕ) → Below bound xs → Below bound (take n xs)
 unfolding Below
 below-take bound zero xs h = tt
 below-take bound (suc n) [] h = tt
 below-take bound (suc n) (x ∷ xs) (h, hs) = (h, below-take bound n xs hs)
 
+-- all behind the first n
 pub below-drop : (bound n : ℕ) (xs : List ℕ) → Below bound xs → Below bound (drop n xs)
 unfolding Below
 below-drop bound zero xs h = h
@@ -58,17 +61,20 @@ below-at bound [] at p h = p
 below-at bound (x ∷ xs) zero p (h, hs) = h
 below-at bound (x ∷ xs) (suc at) p (h, hs) = below-at bound xs at p hs
 
+-- n times the same number
 pub below-replicate : (bound n v : ℕ) → v < bound → Below bound (replicate n v)
 unfolding Below
 below-replicate bound zero v h = tt
 below-replicate bound (suc n) v h = (h, below-replicate bound n v h)
 
+-- one number replaced
 pub below-set : (bound : ℕ) (xs : List ℕ) (at v : ℕ) → v < bound → Below bound xs → Below bound (set xs at v)
 unfolding Below
 below-set bound [] at v p h = tt
 below-set bound (x ∷ xs) zero v p (h, hs) = (p, hs)
 below-set bound (x ∷ xs) (suc at) v p (h, hs) = (h, below-set bound xs at v p hs)
 
+-- a row of numbers replaced
 pub below-sets : (bound : ℕ) (xs : List ℕ) (at : ℕ) (vs : List ℕ) → Below bound vs → Below bound xs → Below bound (sets xs at vs)
 unfolding Below
 below-sets bound xs at [] p h = h

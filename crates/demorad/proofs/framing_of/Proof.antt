@@ -1,3 +1,4 @@
+-- Each return is one case of the framing.
 use native.Mathlib.Omega.{arith}
 use Rattle.demorad.proofs.ReadingLaws.{framing-short, at-rest, at-empty, at-size, at-fine}
 use borrow.Author.Needs.{needs}

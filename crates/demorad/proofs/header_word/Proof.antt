@@ -1,3 +1,4 @@
+-- The header with RD and without it.
 use Rattle.demorad.proofs.WritingLaws.{header-set, header-clear}
 use borrow.Author.Needs.{needs}
 use Rattle.demorad.proofs.header_word.Statement.{statement}

@@ -1,3 +1,4 @@
+-- Each return is one case of the legality under the rule of the code.
 use mathlib.Core.Path.{ap}
 use Prim.Native.Nat.{ℕ}
 use native.Mathlib.Omega.{arith}

@@ -1,3 +1,4 @@
+-- The words stored so far, and the words that are left stored behind them, are the padded payload.
 use mathlib.Core.Path.{_≡_, refl}
 use Prim.Native.Nat.{_+_, _-_, _*_, _≤_}
 use native.Mathlib.Omega.{arith}

@@ -1,3 +1,4 @@
+-- The framing, then the legality: each return is one case of the reading.
 use mathlib.Core.Path.{_≡_, _∙_, sym, ap}
 use Prim.Native.Nat.{ℕ, _-_}
 use native.Mathlib.Omega.{arith}

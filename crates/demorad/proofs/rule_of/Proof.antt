@@ -1,3 +1,4 @@
+-- Each arm puts its code into the table, which then computes; the last arm is in no row.
 use mathlib.Core.Path.{_∙_}
 use borrow.Author.Tests.{ne-eqb}
 use Rattle.demorad.specs.Rules.{ruleOf}

@@ -1,3 +1,4 @@
+-- Each return is one of the three answers of a writer; the last stores the header, then the payload behind it.
 use mathlib.Core.Path.{_≡_, _∙_, sym, ap}
 use native.Mathlib.Omega.{arith}
 use lib.ListN.{length}

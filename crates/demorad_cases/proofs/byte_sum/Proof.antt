@@ -1,3 +1,4 @@
+-- The index stays within the bytes.
 use Prim.Native.Nat.{_≤_, _-_}
 use borrow.Author.Needs.{needs}
 use lib.ListN.{length}

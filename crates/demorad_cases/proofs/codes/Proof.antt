@@ -1,3 +1,4 @@
+-- The counter stays within its bound.
 use Prim.Native.Nat.{_≤_, _-_}
 use borrow.Author.Needs.{needs}
 use Rattle.demorad_cases.proofs.codes.Statement.{statement}

@@ -1,3 +1,4 @@
+-- The part lent has n bytes.
 use native.Mathlib.Omega.{arith}
 use lib.ListN.{length-take}
 use borrow.Author.Needs.{needs}

@@ -1,3 +1,4 @@
+-- The index stays within the words.
 use Prim.Native.Nat.{_≤_, _-_}
 use borrow.Author.Needs.{needs}
 use Rattle.demorad_cases.proofs.word_sum.Statement.{statement}

@@ -1,3 +1,4 @@
+-- The Horner sum of the code is the definition, unfolded.
 use native.Mathlib.Omega.{arith}
 use Rattle.digits.specs.LittleEndian.{fromLittle}
 use borrow.Author.Needs.{needs}

@@ -1,3 +1,4 @@
+-- Each return is one law: no room, no room, four stores in a row.
 use mathlib.Core.Path.{sym}
 use native.Mathlib.Omega.{arith}
 use lib.ListN.{length-set}

@@ -1,3 +1,4 @@
+-- Each return is one law: no four bytes, no four bytes, the four bytes joined.
 use mathlib.Core.Path.{_∙_, sym}
 use native.Mathlib.Omega.{arith}
 use Rattle.digits.proofs.LittleEndianLaws.{word-missing, word-joined}
