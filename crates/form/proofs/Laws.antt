@@ -102,6 +102,11 @@ seq p h at bs = seq-any p h at bs
 pub go-on : (p : Form) (h : ℕ → Form) (at : ℕ) (bs : List ℕ) {r : Judgement} {v e : ℕ} → r ≡ judgeAt p at bs → r ≡ Whole v e → judgeAt (p >>= h) at bs ≡ judgeAt (h v) e bs
 go-on p h at bs a b = seq p h at bs ∙ ap (λ (j : Judgement). after j (λ v e. judgeAt (h v) e bs)) (sym a ∙ b)
 
+-- nothing more: the value, and the offset that was come to
+pub whole-there : (v at : ℕ) (bs : List ℕ) → Whole v at ≡ judgeAt (whole v) at bs
+unfolding judge
+whole-there v at bs = refl
+
 -- what the else of `let Judgement::Whole(..) = r else` knows of r
 abbrev pub Halted : Judgement → Type 0
 Halted r = OneOf (1 ∷ 2 ∷ []) (tagOf the-type r)
