@@ -1,2 +1,4 @@
 pub mod Laws
 pub mod MmWaveSound
+pub mod Lives
+pub mod Theorems
