@@ -2,3 +2,4 @@ pub mod Laws
 pub mod MmWaveSound
 pub mod Lives
 pub mod Theorems
+pub mod Document

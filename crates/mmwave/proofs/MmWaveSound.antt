@@ -22,18 +22,23 @@ type-free n m = refl
 fills-empty : (n k : ℕ) → Fills mmWave n k 0
 unfolding Fills mmWave
 fills-empty n zero = refl
-fills-empty n (suc k) = (0, 0, omega arith, type-free n 0, omega arith, fills-empty n k)
+fills-empty n (suc k) = (0, 0, type-free n 0, omega arith, fills-empty n k)
 
--- one record or more fill any room
-fills-any : (n k room : ℕ) → Fills mmWave n (suc k) room
-unfolding Fills mmWave
-fills-any n k room = (0, room, omega arith, type-free n room, omega arith, left)
+-- a free payload takes the whole room
+fills-free : (n k room : ℕ) → SomeLength mmWave n k room 0
+unfolding mmWave
+fills-free n k room = (room, type-free n room, (omega arith, left))
   where
     e : 0 ≡ room - room
     e = omega arith
 
     left : Fills mmWave n k (room - room)
     left = rw (← e) (fills-empty n k)
+
+-- one record or more fill any room
+fills-any : (n k room : ℕ) → Fills mmWave n (suc k) room
+unfolding Fills
+fills-any n k room = let s = fills-free n k room in (0, s .0, s .1, s .2 .0, s .2 .1)
 
 -- -- Reason 24
 
@@ -125,5 +130,6 @@ mmWave-sound = record {
   count-reads = λ n l k t. (count-forth n l k, count-back n l k t);
   count-room = λ l k h. count-forth 0 l k h .1;
   type-reads = λ n k room type. (possible-forth n k room type (payloadRule type n) refl, possible-back n k room type);
+  some-type = λ n k room f. (0, omega arith, fills-free n k room);
   length-reads = λ n k room m. (fits-forth n k room m, fits-back n k room m);
 }

@@ -1,3 +1,4 @@
 pub mod Profile
 pub mod Packet
 pub mod MmWave
+pub mod Document
