@@ -3,3 +3,4 @@ pub mod MmWaveSound
 pub mod Lives
 pub mod Theorems
 pub mod Document
+pub mod Paper

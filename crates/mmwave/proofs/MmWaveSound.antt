@@ -104,7 +104,8 @@ count-forth n l zero h = let e = eqb-true l 64 h in (omega arith, omega arith, l
 count-forth n l (suc k) h = let g = and-both (leb (suc k) 32) (leb (40 + 8 * suc k) l) (rw (ne-eqb (suc k) 0 (omega arith)) at h) in
     (leb-true (suc k) 32 (g .0), leb-true (40 + 8 * suc k) l (g .1), fills-any n k (l - (40 + 8 * suc k)))
 
-total-bounds : (l : ℕ) → totalLegal l ≡ true → (l % 32 ≡ 0) × (64 ≤ l) × (l ≤ 32768)
+-- a legal total length is a multiple of 32 from 64 to 32,768
+pub total-bounds : (l : ℕ) → totalLegal l ≡ true → (l % 32 ≡ 0) × (64 ≤ l) × (l ≤ 32768)
 unfolding totalLegal
 total-bounds l h = go (eqb (l % 32) 0) refl h
   where

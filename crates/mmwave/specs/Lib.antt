@@ -2,3 +2,4 @@ pub mod Profile
 pub mod Packet
 pub mod MmWave
 pub mod Document
+pub mod Paper
