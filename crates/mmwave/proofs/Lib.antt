@@ -4,3 +4,4 @@ pub mod Lives
 pub mod Theorems
 pub mod Document
 pub mod Paper
+pub mod Reasons

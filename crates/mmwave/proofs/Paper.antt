@@ -79,11 +79,11 @@ legal-exactly n type m = (legal-forth n type m, legal-back n type m)
 -- -- The end and the total length
 
 -- a multiple of 32 less than 32 above e is the smallest not below e
-smallest-of : (e l : ℕ) → l % 32 ≡ 0 → e ≤ l → l - e < 32 → Smallest e l
+pub smallest-of : (e l : ℕ) → l % 32 ≡ 0 → e ≤ l → l - e < 32 → Smallest e l
 smallest-of e l a b c = record { multiple = a; above = b; least = λ m d f. omega arith }
 
 -- the smallest multiple of 32 not below e is less than 32 above it
-smallest-near : (e l : ℕ) → Smallest e l → l - e < 32
+pub smallest-near : (e l : ℕ) → Smallest e l → l - e < 32
 smallest-near e l s = go (decLe (e + 32) l)
   where
     go : Dec (e + 32 ≤ l) → l - e < 32
