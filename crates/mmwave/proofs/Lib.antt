@@ -5,3 +5,4 @@ pub mod Theorems
 pub mod Document
 pub mod Paper
 pub mod Reasons
+pub mod Edges

@@ -3,3 +3,4 @@ pub mod Packet
 pub mod MmWave
 pub mod Document
 pub mod Paper
+pub mod Edges
