@@ -15,13 +15,20 @@ rest-of-requires : tie.Need-rest-of-requires
 rest-of-requires c κs = search needs
 
 returns-2 : tie.Need-returns-2
-returns-2 c = at-rest (c .before .before .before .before .before .args .bytes .now) _ _ (omega arith) (c .before .before .word-at .ensures) (c .before .rest-of .ensures) (c .if2 .taken)
+returns-2 c =
+    let w = c .before .before in
+    at-rest (w .before .before .before .args .bytes .now) _ _ (omega arith) (w .word-at .ensures) (c .before .rest-of .ensures) (c .if2 .taken)
 
 length-of-requires : tie.Need-length-of-requires
 length-of-requires c κs = search needs
 
 returns-3 : tie.Need-returns-3
-returns-3 c = at-empty (c .before .before .before .before .before .before .before .args .bytes .now) _ _ (omega arith) (c .before .before .before .before .word-at .ensures) (c .before .before .before .rest-of .ensures) (c .before .before .if2 .left) _ (c .before .length-of .ensures) (c .if3 .taken)
+returns-3 c =
+    let n = c .before in
+    let r = n .before .before in
+    let w = r .before in
+    at-empty (w .before .before .before .args .bytes .now) _ _ (omega arith) (w .word-at .ensures) (r .rest-of .ensures) (n .before .if2 .left) _
+    (n .length-of .ensures) (c .if3 .taken)
 
 cast-size : tie.Need-cast-size
 cast-size c = search needs
@@ -30,10 +37,20 @@ mul-size : tie.Need-mul-size
 mul-size c = search needs
 
 returns-4 : tie.Need-returns-4
-returns-4 c = at-size (c .before .before .before .before .before .before .before .before .args .bytes .now) _ _ (omega arith) (c .before .before .before .before .before .word-at .ensures) (c .before .before .before .before .rest-of .ensures) (c .before .before .before .if2 .left) _ (c .before .before .length-of .ensures) (c .before .if3 .left) (c .if4 .taken)
+returns-4 c =
+    let n = c .before .before in
+    let r = n .before .before in
+    let w = r .before in
+    at-size (w .before .before .before .args .bytes .now) _ _ (omega arith) (w .word-at .ensures) (r .rest-of .ensures) (n .before .if2 .left) _
+    (n .length-of .ensures) (c .before .if3 .left) (c .if4 .taken)
 
 returns-5 : tie.Need-returns-5
-returns-5 c = at-fine (c .before .before .before .before .before .before .before .before .args .bytes .now) _ _ (omega arith) (c .before .before .before .before .before .word-at .ensures) (c .before .before .before .before .rest-of .ensures) (c .before .before .before .if2 .left) _ (c .before .before .length-of .ensures) (c .before .if3 .left) (c .if4 .left)
+returns-5 c =
+    let n = c .before .before in
+    let r = n .before .before in
+    let w = r .before in
+    at-fine (w .before .before .before .args .bytes .now) _ _ (omega arith) (w .word-at .ensures) (r .rest-of .ensures) (n .before .if2 .left) _
+    (n .length-of .ensures) (c .before .if3 .left) (c .if4 .left)
 
 pub framing-of-spec : {M : Type 1} → statement M
 framing-of-spec =

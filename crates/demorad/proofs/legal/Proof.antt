@@ -13,28 +13,78 @@ rule-of-requires : tie.Need-rule-of-requires
 rule-of-requires c κs = search needs
 
 returns : tie.Need-returns
-returns c = let a = c .before .before .args in (by-rule (a .code) (a .count) (a .t3) (c .before .rule-of .result) 44 (c .before .rule-of .ensures) (judged-unknown (c .before .rule-of .result) (a .count) (a .t3) (not-true _ (c .if1 .taken))), search needs)
+returns c =
+    let r = c .before in
+    let a = r .before .args in
+    let known = r .rule-of in (
+      by-rule (a .code) (a .count) (a .t3) (known .result) 44 (known .ensures)
+          (judged-unknown (known .result) (a .count) (a .t3) (not-true _ (c .if1 .taken))),
+      search needs,
+    )
 
 returns-2 : tie.Need-returns-2
-returns-2 c = let a = c .before .before .before .before .args in (by-rule (a .code) (a .count) (a .t3) (c .before .before .before .rule-of .result) 45 (c .before .before .before .rule-of .ensures) (judged-few (c .before .before .before .rule-of .result) (a .count) (a .t3) (not-false _ (c .before .before .if1 .left)) (c .if2 .taken)), search needs)
+returns-2 c =
+    let r = c .before .before .before in
+    let a = r .before .args in
+    let known = r .rule-of in (
+      by-rule (a .code) (a .count) (a .t3) (known .result) 45 (known .ensures)
+          (judged-few (known .result) (a .count) (a .t3) (not-false _ (c .before .before .if1 .left)) (c .if2 .taken)),
+      search needs,
+    )
 
 returns-3 : tie.Need-returns-3
-returns-3 c = let a = c .before .before .before .before .before .before .args in (by-rule (a .code) (a .count) (a .t3) (c .before .before .before .before .before .rule-of .result) 45 (c .before .before .before .before .before .rule-of .ensures) (judged-many (c .before .before .before .before .before .rule-of .result) (a .count) (a .t3) (not-false _ (c .before .before .before .before .if1 .left)) (c .if3 .taken)), search needs)
+returns-3 c =
+    let r = c .before .before .before .before .before in
+    let a = r .before .args in
+    let known = r .rule-of in (
+      by-rule (a .code) (a .count) (a .t3) (known .result) 45 (known .ensures)
+          (judged-many (known .result) (a .count) (a .t3) (not-false _ (c .before .before .before .before .if1 .left)) (c .if3 .taken)),
+      search needs,
+    )
 
 returns-4 : tie.Need-returns-4
-returns-4 c = let a = c .before .before .before .before .before .before .before .args in (by-rule (a .code) (a .count) (a .t3) (c .before .before .before .before .before .before .rule-of .result) 0 (c .before .before .before .before .before .before .rule-of .ensures) (judged-free (c .before .before .before .before .before .before .rule-of .result) (a .count) (a .t3) (not-false _ (c .before .before .before .before .before .if1 .left)) (omega arith) (omega arith) (not-true _ (c .if4 .taken))), search needs)
+returns-4 c =
+    let r = c .before .before .before .before .before .before in
+    let a = r .before .args in
+    let known = r .rule-of in (
+      by-rule (a .code) (a .count) (a .t3) (known .result) 0 (known .ensures)
+          (judged-free (known .result) (a .count) (a .t3) (not-false _ (c .before .before .before .before .before .if1 .left)) (omega arith) (omega arith) (not-true _ (c .if4 .taken))),
+      search needs,
+    )
 
 mul-if5 : tie.Need-mul-if5
-mul-if5 c = let p = index-small (c .before .before .before .before .before .before .before .args .code) in let e = ap (λ (r : Rule). r .index) (c .before .before .before .before .before .before .rule-of .ensures) in omega arith
+mul-if5 c =
+    let r = c .before .before .before .before .before .before in
+    let small = index-small (r .before .args .code) in
+    let same = ap (λ (rule : Rule). rule .index) (r .rule-of .ensures) in
+    omega arith
 
 array-read-if5 : tie.Need-array-read-if5
-array-read-if5 c = let p = index-small (c .before .before .before .before .before .before .before .args .code) in let e = ap (λ (r : Rule). r .index) (c .before .before .before .before .before .before .rule-of .ensures) in omega arith
+array-read-if5 c =
+    let r = c .before .before .before .before .before .before in
+    let small = index-small (r .before .args .code) in
+    let same = ap (λ (rule : Rule). rule .index) (r .rule-of .ensures) in
+    omega arith
 
 returns-5 : tie.Need-returns-5
-returns-5 c = let a = c .before .before .before .before .before .before .before .before .before .args in (by-rule (a .code) (a .count) (a .t3) (c .before .before .before .before .before .before .before .before .rule-of .result) 46 (c .before .before .before .before .before .before .before .before .rule-of .ensures) (judged-out (c .before .before .before .before .before .before .before .before .rule-of .result) (a .count) (a .t3) (not-false _ (c .before .before .before .before .before .before .before .if1 .left)) (omega arith) (omega arith) (not-false _ (c .before .before .if4 .left)) (c .if5 .taken)), search needs)
+returns-5 c =
+    let r = c .before .before .before .before .before .before .before .before in
+    let a = r .before .args in
+    let known = r .rule-of in (
+      by-rule (a .code) (a .count) (a .t3) (known .result) 46 (known .ensures)
+          (judged-out (known .result) (a .count) (a .t3) (not-false _ (c .before .before .before .before .before .before .before .if1 .left)) (omega arith) (omega arith) (not-false _ (c .before .before .if4 .left)) (c .if5 .taken)),
+      search needs,
+    )
 
 returns-6 : tie.Need-returns-6
-returns-6 c = let a = c .before .before .before .before .before .before .before .before .before .args in (by-rule (a .code) (a .count) (a .t3) (c .before .before .before .before .before .before .before .before .rule-of .result) 0 (c .before .before .before .before .before .before .before .before .rule-of .ensures) (judged-in (c .before .before .before .before .before .before .before .before .rule-of .result) (a .count) (a .t3) (not-false _ (c .before .before .before .before .before .before .before .if1 .left)) (omega arith) (omega arith) (not-false _ (c .before .before .if4 .left)) (omega arith)), search needs)
+returns-6 c =
+    let r = c .before .before .before .before .before .before .before .before in
+    let a = r .before .args in
+    let known = r .rule-of in (
+      by-rule (a .code) (a .count) (a .t3) (known .result) 0 (known .ensures)
+          (judged-in (known .result) (a .count) (a .t3) (not-false _ (c .before .before .before .before .before .before .before .if1 .left)) (omega arith) (omega arith) (not-false _ (c .before .before .if4 .left)) (omega arith)),
+      search needs,
+    )
 
 pub legal-spec : {M : Type 1} → statement M
 legal-spec =

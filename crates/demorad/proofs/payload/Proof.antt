@@ -10,7 +10,9 @@ use Rattle.demorad.proofs.payload.Statement.{statement}
 use Rattle.demorad.proofs.payload.Tie as tie
 
 abbrev Inv-loop : tie.InvT-loop
-Inv-loop bytes count words₀ at₀ i₀ words at i = (i ≤ count) × (at ≡ 4 + 4 * i) × (sets words i (wordsOf (count - i) (drop at bytes)) ≡ padded (wordsOf count (drop 4 bytes)))
+Inv-loop bytes count words₀ at₀ i₀ words at i =
+    (i ≤ count) × (at ≡ 4 + 4 * i)
+    × (sets words i (wordsOf (count - i) (drop at bytes)) ≡ padded (wordsOf count (drop 4 bytes)))
 
 abbrev μ-loop : tie.MeasureT-loop
 μ-loop bytes count words₀ at₀ i₀ words at i = count - i
@@ -37,10 +39,19 @@ loop-less : tie.Need-loop-less Inv-loop μ-loop
 loop-less c = omega arith
 
 loop-again : tie.Need-loop-again Inv-loop μ-loop
-loop-again c = let a = c .before .before .before .before .args in let l = c .before .before .loop in (omega arith, omega arith, payload-turns (a .count) (l .i) (l .at) _ (a .bytes .now) (l .words) _ (omega arith) (omega arith) (c .word-at .ensures) (l .inv .2))
+loop-again c =
+    let a = c .before .before .before .before .args in
+    let l = c .before .before .loop in (
+      omega arith,
+      omega arith,
+      payload-turns (a .count) (l .i) (l .at) _ (a .bytes .now) (l .words) _ (omega arith) (omega arith) (c .word-at .ensures) (l .inv .2),
+    )
 
 returns : tie.Need-returns Inv-loop μ-loop
-returns c = let a = c .before .before .before .args in let l = c .before .loop in payload-ends (a .count) (l .i) (l .at) (a .bytes .now) (l .words) _ (omega arith) (l .inv .2)
+returns c =
+    let a = c .before .before .before .args in
+    let l = c .before .loop in
+    payload-ends (a .count) (l .i) (l .at) (a .bytes .now) (l .words) _ (omega arith) (l .inv .2)
 
 pub payload-spec : {M : Type 1} → statement M
 payload-spec =

@@ -11,7 +11,9 @@ use Rattle.demorad.proofs.put_payload.Statement.{statement}
 use Rattle.demorad.proofs.put_payload.Tie as tie
 
 abbrev Inv-loop : tie.InvT-loop
-Inv-loop out₀ n words at₀ i₀ out at i = (i ≤ n) × (at ≡ 4 + 4 * i) × (length out ≡ length out₀) × (stored out at (wordBytes (drop i (take n words))) ≡ stored out₀ 4 (wordBytes (take n words)))
+Inv-loop out₀ n words at₀ i₀ out at i =
+    (i ≤ n) × (at ≡ 4 + 4 * i) × (length out ≡ length out₀)
+    × (stored out at (wordBytes (drop i (take n words))) ≡ stored out₀ 4 (wordBytes (take n words)))
 
 abbrev μ-loop : tie.MeasureT-loop
 μ-loop out₀ n words at₀ i₀ out at i = n - i
@@ -38,13 +40,25 @@ loop-less : tie.Need-loop-less Inv-loop μ-loop
 loop-less c = omega arith
 
 loop-again : tie.Need-loop-again Inv-loop μ-loop
-loop-again c = let a = c .before .before .before .before .before .before .before .args in let l = c .before .before .before .before .before .loop in let e : length (c .before .before .put-word .last .0) ≡ length (l .out) = ap length (c .before .before .put-word .ensures) ∙ length-word-stored (l .out) (l .at) (getD (a .t3) (l .i) 0) in (omega arith, omega arith, omega arith, put-turns (a .n) (l .i) (l .at) (a .t3) (l .out) _ _ (omega arith) (omega arith) (omega arith) (c .before .before .put-word .ensures) (l .inv .3))
+loop-again c =
+    let a = c .before .before .before .before .before .before .before .args in
+    let l = c .before .before .before .before .before .loop in
+    let p = c .before .before .put-word in
+    let same : length (p .last .0) ≡ length (l .out) = ap length (p .ensures) ∙ length-word-stored (l .out) (l .at) (getD (a .t3) (l .i) 0) in (
+      omega arith,
+      omega arith,
+      omega arith,
+      put-turns (a .n) (l .i) (l .at) (a .t3) (l .out) _ _ (omega arith) (omega arith) (omega arith) (p .ensures) (l .inv .3),
+    )
 
 same-length : tie.Need-same-length Inv-loop μ-loop
 same-length c = let l = c .before .loop in omega arith
 
 returns : tie.Need-returns Inv-loop μ-loop
-returns c = let a = c .before .before .before .args in let l = c .before .loop in put-ends (a .n) (l .i) (l .at) (a .t3) (l .out) _ (omega arith) (l .inv .3)
+returns c =
+    let a = c .before .before .before .args in
+    let l = c .before .loop in
+    put-ends (a .n) (l .i) (l .at) (a .t3) (l .out) _ (omega arith) (l .inv .3)
 
 pub put-payload-spec : {M : Type 1} → statement M
 put-payload-spec =

@@ -15,7 +15,9 @@ refused-requires : tie.Need-refused-requires
 refused-requires c κs = search needs
 
 returns : tie.Need-returns
-returns c = c .refused .ensures ∙ read-unframed (c .before .before .before .before .args .bytes .now) _ (c .before .before .framing-of .ensures) (c .before .if1 .taken)
+returns c =
+    let f = c .before .before in
+    c .refused .ensures ∙ read-unframed (f .before .before .args .bytes .now) _ (f .framing-of .ensures) (c .before .if1 .taken)
 
 word-at-requires : tie.Need-word-at-requires
 word-at-requires c κs = search needs
@@ -27,13 +29,25 @@ length-of-requires : tie.Need-length-of-requires
 length-of-requires c κs = search needs
 
 sub-count : tie.Need-sub-count
-sub-count c = let f = is-framed (c .before .before .before .before .before .before .args .bytes .now) (sym (c .before .before .before .before .framing-of .ensures) ∙ c .before .before .before .if1 .left) in let e : c .length-of .result ≡ lengthOf (headerOf (c .before .before .before .before .before .before .args .bytes .now)) = c .length-of .ensures ∙ ap lengthOf (c .before .before .word-at .ensures) in omega arith
+sub-count c =
+    let w = c .before .before in
+    let f = w .before .before in
+    let bs = f .before .before .args .bytes .now in
+    let framed = is-framed bs (sym (f .framing-of .ensures) ∙ w .before .if1 .left) in
+    let same : c .length-of .result ≡ lengthOf (headerOf bs) = c .length-of .ensures ∙ ap lengthOf (w .word-at .ensures) in
+    omega arith
 
 cast-payload : tie.Need-cast-payload
 cast-payload c = search needs
 
 payload-requires : tie.Need-payload-requires
-payload-requires c κs = let f = is-framed (c .before .before .before .before .before .before .args .bytes .now) (sym (c .before .before .before .before .framing-of .ensures) ∙ c .before .before .before .if1 .left) in let e : c .length-of .result ≡ lengthOf (headerOf (c .before .before .before .before .before .before .args .bytes .now)) = c .length-of .ensures ∙ ap lengthOf (c .before .before .word-at .ensures) in (omega arith, omega arith)
+payload-requires c κs =
+    let w = c .before .before in
+    let f = w .before .before in
+    let bs = f .before .before .args .bytes .now in
+    let framed = is-framed bs (sym (f .framing-of .ensures) ∙ w .before .if1 .left) in
+    let same : c .length-of .result ≡ lengthOf (headerOf bs) = c .length-of .ensures ∙ ap lengthOf (w .word-at .ensures) in
+    (omega arith, omega arith)
 
 legal-requires : tie.Need-legal-requires
 legal-requires c κs = search needs
@@ -42,13 +56,31 @@ refused-requires-2 : tie.Need-refused-requires-2
 refused-requires-2 c κs = search needs
 
 returns-2 : tie.Need-returns-2
-returns-2 c = c .refused2 .ensures ∙ read-illegal (c .before .before .before .before .before .before .before .before .before .before .args .bytes .now) _ _ _ _ _ (sym (c .before .before .before .before .before .before .before .before .framing-of .ensures) ∙ c .before .before .before .before .before .before .before .if1 .left) (c .before .before .before .before .before .before .word-at .ensures) (c .before .before .before .before .before .code-of .ensures) (ap (λ (n : ℕ). n - 1) (c .before .before .before .before .length-of .ensures)) (c .before .before .before .payload .ensures) (c .before .before .legal .ensures .0) (c .before .if2 .taken)
+returns-2 c =
+    let l = c .before .before in
+    let p = l .before in
+    let n = p .before in
+    let k = n .before in
+    let w = k .before in
+    let f = w .before .before in
+    c .refused2 .ensures
+    ∙ read-illegal (f .before .before .args .bytes .now) _ _ _ _ _ (sym (f .framing-of .ensures) ∙ w .before .if1 .left)
+    (w .word-at .ensures) (k .code-of .ensures) (ap (λ (m : ℕ). m - 1) (n .length-of .ensures)) (p .payload .ensures) (l .legal .ensures .0) (c .before .if2 .taken)
 
 rd-of-requires : tie.Need-rd-of-requires
 rd-of-requires c κs = search needs
 
 returns-3 : tie.Need-returns-3
-returns-3 c = read-done (c .before .before .before .before .before .before .before .before .before .before .args .bytes .now) _ _ _ _ _ (sym (c .before .before .before .before .before .before .before .before .framing-of .ensures) ∙ c .before .before .before .before .before .before .before .if1 .left) (c .before .before .before .before .before .before .word-at .ensures) (c .before .before .before .before .before .code-of .ensures) (ap (λ (n : ℕ). n - 1) (c .before .before .before .before .length-of .ensures)) (c .before .before .before .payload .ensures) (c .before .before .legal .ensures .0) _ (c .rd-of .ensures) (c .before .if2 .left)
+returns-3 c =
+    let l = c .before .before in
+    let p = l .before in
+    let n = p .before in
+    let k = n .before in
+    let w = k .before in
+    let f = w .before .before in
+    read-done (f .before .before .args .bytes .now) _ _ _ _ _ (sym (f .framing-of .ensures) ∙ w .before .if1 .left)
+    (w .word-at .ensures) (k .code-of .ensures) (ap (λ (m : ℕ). m - 1) (n .length-of .ensures)) (p .payload .ensures) (l .legal .ensures .0) _
+    (c .rd-of .ensures) (c .before .if2 .left)
 
 pub read-command-spec : {M : Type 1} → statement M
 read-command-spec =

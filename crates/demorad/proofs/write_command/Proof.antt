@@ -24,22 +24,53 @@ mul-size : tie.Need-mul-size
 mul-size c = search needs
 
 returns-2 : tie.Need-returns-2
-returns-2 c = let a = c .before .before .before .before .args in let ok : legality (a .code) (a .count) (a .words) ≡ 0 = sym (c .before .before .legal .ensures .0) ∙ c .before .if1 .left in let b = is-legal (a .code) (a .count) (a .words) ok in let t = c .before .before .legal .ensures .1 in let s = length-command (a .rd) (a .code) (a .count) (a .words) (omega arith) in short _ (commandBytes (a .rd) (a .code) (a .count) (a .words)) (a .out .now) ok (omega arith)
+returns-2 c =
+    let l = c .before .before in
+    let a = l .before .before .args in
+    let ok : legality (a .code) (a .count) (a .words) ≡ 0 = sym (l .legal .ensures .0) ∙ c .before .if1 .left in
+    let legal = is-legal (a .code) (a .count) (a .words) ok in
+    let thirty = l .legal .ensures .1 in
+    let bytes = commandBytes (a .rd) (a .code) (a .count) (a .words) in
+    let size = length-command (a .rd) (a .code) (a .count) (a .words) (omega arith) in
+    short _ bytes (a .out .now) ok (omega arith)
 
 header-word-requires : tie.Need-header-word-requires
-header-word-requires c κs = let a = c .before .before .before .before .args in let ok : legality (a .code) (a .count) (a .words) ≡ 0 = sym (c .before .before .legal .ensures .0) ∙ c .before .if1 .left in let b = is-legal (a .code) (a .count) (a .words) ok in (b .small, b .few)
+header-word-requires c κs =
+    let l = c .before .before in
+    let a = l .before .before .args in
+    let ok : legality (a .code) (a .count) (a .words) ≡ 0 = sym (l .legal .ensures .0) ∙ c .before .if1 .left in
+    let legal = is-legal (a .code) (a .count) (a .words) ok in
+    (legal .small, legal .few)
 
 put-word-requires : tie.Need-put-word-requires
 put-word-requires c κs = search needs
 
 put-payload-requires : tie.Need-put-payload-requires
-put-payload-requires c κs = let a = c .before .before .before .before .before .before .before .before .before .before .args in let ok : legality (a .code) (a .count) (a .words) ≡ 0 = sym (c .before .before .before .before .before .before .before .before .legal .ensures .0) ∙ c .before .before .before .before .before .before .before .if1 .left in let b = is-legal (a .code) (a .count) (a .words) ok in let e : length (c .before .before .before .put-word .last .0) ≡ length (a .out .now) = ap length (c .before .before .before .put-word .ensures) ∙ length-word-stored (a .out .now) 0 (c .before .before .before .before .before .header-word .result) in (b .few, omega arith)
+put-payload-requires c κs =
+    let l = c .before .before .before .before .before .before .before .before in
+    let a = l .before .before .args in
+    let ok : legality (a .code) (a .count) (a .words) ≡ 0 = sym (l .legal .ensures .0) ∙ c .before .before .before .before .before .before .before .if1 .left in
+    let legal = is-legal (a .code) (a .count) (a .words) ok in
+    let p = c .before .before .before .put-word in
+    let same : length (p .last .0) ≡ length (a .out .now) = ap length (p .ensures) ∙ length-word-stored (a .out .now) 0 (c .before .before .before .before .before .header-word .result) in
+    (legal .few, omega arith)
 
 same-length : tie.Need-same-length
 same-length c = search needs
 
 returns-3 : tie.Need-returns-3
-returns-3 c = let a = c .before .before .before .before .before .before .before .before .before .before .before .before .before .args in let ok : legality (a .code) (a .count) (a .words) ≡ 0 = sym (c .before .before .before .before .before .before .before .before .before .before .before .legal .ensures .0) ∙ c .before .before .before .before .before .before .before .before .before .before .if1 .left in let b = is-legal (a .code) (a .count) (a .words) ok in let t = c .before .before .before .before .before .before .before .before .before .before .before .legal .ensures .1 in let s = length-command (a .rd) (a .code) (a .count) (a .words) (omega arith) in done _ (commandBytes (a .rd) (a .code) (a .count) (a .words)) (a .out .now) _ _ ok s (omega arith) (put-command (a .rd) (a .code) (a .count) (c .before .before .before .before .before .before .before .before .header-word .result) (a .words) (a .out .now) _ _ (omega arith) (c .before .before .before .before .before .before .before .before .header-word .ensures) (c .before .before .before .before .before .before .put-word .ensures) (c .before .before .put-payload .ensures))
+returns-3 c =
+    let l = c .before .before .before .before .before .before .before .before .before .before .before in
+    let a = l .before .before .args in
+    let ok : legality (a .code) (a .count) (a .words) ≡ 0 = sym (l .legal .ensures .0) ∙ c .before .before .before .before .before .before .before .before .before .before .if1 .left in
+    let legal = is-legal (a .code) (a .count) (a .words) ok in
+    let thirty = l .legal .ensures .1 in
+    let bytes = commandBytes (a .rd) (a .code) (a .count) (a .words) in
+    let size = length-command (a .rd) (a .code) (a .count) (a .words) (omega arith) in
+    let h = c .before .before .before .before .before .before .before .before .header-word in
+    done _ bytes (a .out .now) _ _ ok size (omega arith)
+    (put-command (a .rd) (a .code) (a .count) (h .result) (a .words) (a .out .now) _ _ (omega arith) (h .ensures) (c .before .before .before .before .before .before .put-word .ensures)
+    (c .before .before .put-payload .ensures))
 
 pub write-command-spec : {M : Type 1} → statement M
 write-command-spec =
