@@ -11,7 +11,8 @@ use lib.ListN.{length, take, drop, set, replicate}
 use lib.Seq.{sets}
 use Rattle.digits.specs.LittleEndian.{wordAt}
 use Rattle.demorad.specs.Rules.{ruleOf, legality}
-use Rattle.demorad.specs.Reading.{rdOf, restOf, lengthOf, codeOf, headerOf, countOf, wordsOf, payloadOf, padded, framing, readRefusal, refusedCommand, command, readCommand}
+use Rattle.demorad.specs.Reading.{rdOf, restOf, lengthOf, codeOf, headerOf, countOf, wordsOf}
+use Rattle.demorad.specs.Reading.{payloadOf, padded, framing, readRefusal, refusedCommand, command, readCommand}
 use Rattle.demorad.proofs.WordLaws.{words-more, length-words, padded-sets, getD-padded}
 use Rattle.demorad.specs.declared.Command.{Command}
 
@@ -57,9 +58,11 @@ module _ (bs : List ℕ) where
 
   -- all bytes have one
   pub framing-view : Framing (framing bs)
-  framing-view = go (decLe 4 (length bs)) (ℕ-discrete (restOf (headerOf bs)) 0) (ℕ-discrete (lengthOf (headerOf bs)) 0) (ℕ-discrete (length bs) (4 * lengthOf (headerOf bs)))
+  framing-view =
+      go (decLe 4 (length bs)) (ℕ-discrete (restOf (headerOf bs)) 0) (ℕ-discrete (lengthOf (headerOf bs)) 0) (ℕ-discrete (length bs) (4 * lengthOf (headerOf bs)))
     where
-      go : Dec (4 ≤ length bs) → Dec (restOf (headerOf bs) ≡ 0) → Dec (lengthOf (headerOf bs) ≡ 0) → Dec (length bs ≡ 4 * lengthOf (headerOf bs)) → Framing (framing bs)
+      go : Dec (4 ≤ length bs) → Dec (restOf (headerOf bs) ≡ 0) → Dec (lengthOf (headerOf bs) ≡ 0)
+          → Dec (length bs ≡ 4 * lengthOf (headerOf bs)) → Framing (framing bs)
       go (no l) r n s = subst Framing (framing-short (omega arith)) (short (omega arith))
       go (yes l) (no r) n s = subst Framing (framing-rest l r) (rest l r)
       go (yes l) (yes r) (yes n) s = subst Framing (framing-empty l r n) (empty l r n)
@@ -120,7 +123,8 @@ payload-starts n bs h =
     rw e (padded-sets (wordsOf n bs) (omega arith))
 
 -- a turn
-pub payload-turns : (n i at w : ℕ) (bs words all : List ℕ) → i < n → at + 4 ≤ length bs → w ≡ wordAt bs at → sets words i (wordsOf (n - i) (drop at bs)) ≡ all
+pub payload-turns : (n i at w : ℕ) (bs words all : List ℕ) → i < n → at + 4 ≤ length bs → w ≡ wordAt bs at
+    → sets words i (wordsOf (n - i) (drop at bs)) ≡ all
     → sets (set words i w) (i + 1) (wordsOf (n - (i + 1)) (drop (at + 4) bs)) ≡ all
 payload-turns n i at w bs words all h l e inv =
     let m : n - i ≡ suc (n - (i + 1)) = omega arith in

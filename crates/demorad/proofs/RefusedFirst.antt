@@ -1,4 +1,5 @@
--- A command is refused with the first number whose condition holds. The two case distinctions, `Framing` and `Verdict`, give the condition that holds; every earlier one contradicts a fact of the same case.
+-- A command is refused with the first number whose condition holds. The two case distinctions, `Framing` and `Verdict`, give the condition
+-- that holds; every earlier one contradicts a fact of the same case.
 use mathlib.Core.Path.{_≡_, refl, sym, ap, _∙_, subst}
 use mathlib.Core.Bool.{Bool, true, false, cond}
 use mathlib.Core.List.{List, [], _∷_}
@@ -21,7 +22,8 @@ use Rattle.demorad.specs.Refusals.{Absent, Listed, First}
 use Rattle.demorad.specs.Refusals.{Illegal, unknown-code, too-few, too-many, over-thirty, wrong-selection}
 use Rattle.demorad.specs.Refusals.{Unreadable, too-short, rest-bit, no-length, wrong-size, illegal-read, Unwritable, illegal-write, no-room}
 use Rattle.demorad.specs.declared.Rule.{Rule}
-use Rattle.demorad.proofs.RuleLaws.{most-small, known-listed, listed-rule, absent-unknown, unknown-absent, all-known, selected, Verdict, unknown, few, many, out, fine, verdict}
+use Rattle.demorad.proofs.RuleLaws.{most-small, known-listed, listed-rule, absent-unknown, unknown-absent, all-known, selected}
+use Rattle.demorad.proofs.RuleLaws.{Verdict, unknown, few, many, out, fine, verdict}
 use Rattle.demorad.proofs.ReadingLaws.{Framing, short, rest, empty, size, framed, framing-view}
 use Rattle.demorad.proofs.RoundTrips.{refusal-read}
 
@@ -175,13 +177,15 @@ module _ (bs : List ℕ) where
       record {
         none = λ z. absurd (omega arith);
         holds = λ z. too-short l;
-        least = framed-below 40 (λ h. absurd (omega arith)) (λ h. absurd (omega arith)) (λ h. absurd (omega arith)) (λ h. absurd (omega arith)) (not-yet 40 (omega arith));
+        least =
+            framed-below 40 (λ h. absurd (omega arith)) (λ h. absurd (omega arith)) (λ h. absurd (omega arith)) (λ h. absurd (omega arith)) (not-yet 40 (omega arith));
       }
   framing-first (rest l r) =
       record {
         none = λ z. absurd (omega arith);
         holds = λ z. let b = some-rest-bit (headerOf bs) r in rest-bit (b .0) (b .1) (b .2) (b .3);
-        least = framed-below 41 (λ h. l) (λ h. absurd (omega arith)) (λ h. absurd (omega arith)) (λ h. absurd (omega arith)) (not-yet 41 (omega arith));
+        least =
+            framed-below 41 (λ h. l) (λ h. absurd (omega arith)) (λ h. absurd (omega arith)) (λ h. absurd (omega arith)) (not-yet 41 (omega arith));
       }
   framing-first (empty l r z) =
       record {
@@ -220,7 +224,12 @@ module _ (rd : Bool) (code count : ℕ) (words out : List ℕ) where
   refused-values : (legality code count words ≡ 0 → ⊥) → First Fails (legality code count words)
   refused-values d =
       let f = legality-first code count words in
-      record { none = λ z. absurd (d z); holds = λ z. illegal-write (f .holds d); least = below (f .least) (illegal-to code count words (f .holds d)) }
+      record {
+        none =
+            λ z. absurd (d z);
+        holds = λ z. illegal-write (f .holds d);
+        least = below (f .least) (illegal-to code count words (f .holds d));
+      }
     where
       below : ((m : ℕ) → m < legality code count words → Illegal code count words m → ⊥) → legality code count words ≤ 46
           → (m : ℕ) → m < legality code count words → Fails m → ⊥
@@ -235,7 +244,8 @@ module _ (rd : Bool) (code count : ℕ) (words out : List ℕ) where
       below f m h (no-room k) = omega arith
 
   nothing-fails : legality code count words ≡ 0 → length (commandBytes rd code count words) ≤ length out → First Fails 0
-  nothing-fails d l = record { none = λ z. never (legality-first code count words .none d); holds = λ z. absurd (z refl); least = λ m h. absurd (omega arith) }
+  nothing-fails d l =
+      record { none = λ z. never (legality-first code count words .none d); holds = λ z. absurd (z refl); least = λ m h. absurd (omega arith) }
     where
       never : ((m : ℕ) → Illegal code count words m → ⊥) → (m : ℕ) → Fails m → ⊥
       never f m (illegal-write i) = f m i
@@ -246,7 +256,8 @@ module _ (rd : Bool) (code count : ℕ) (words out : List ℕ) where
     where
       go : Dec (legality code count words ≡ 0) → Dec (length (commandBytes rd code count words) ≤ length out) → First Fails (answer .refusal)
       go (no d) l = rw (ne-eqb (legality code count words) 0 d) (refused-values d)
-      go (yes d) (yes l) = rw (eq-eqb (legality code count words) 0 d, le-leb (length (commandBytes rd code count words)) (length out) l) (nothing-fails d l)
+      go (yes d) (yes l) =
+          rw (eq-eqb (legality code count words) 0 d, le-leb (length (commandBytes rd code count words)) (length out) l) (nothing-fails d l)
       go (yes d) (no l) =
           rw (eq-eqb (legality code count words) 0 d, lt-leb (length (commandBytes rd code count words)) (length out) (omega arith)) (no-output d (omega arith))
 

@@ -18,7 +18,8 @@ use Rattle.digits.proofs.LittleEndianLaws.{from-to-little, word-there, little-a
 use Rattle.digits.proofs.StoreLaws.{succeeded}
 use Rattle.demorad.specs.Rules.{legality}
 use Rattle.demorad.specs.Image.{headerWord, wordBytes, commandBytes}
-use Rattle.demorad.specs.Reading.{rdOf, restOf, lengthOf, codeOf, headerOf, countOf, wordsOf, payloadOf, padded, framing, readRefusal, refusedCommand, command, readCommand}
+use Rattle.demorad.specs.Reading.{rdOf, restOf, lengthOf, codeOf, headerOf, countOf, wordsOf}
+use Rattle.demorad.specs.Reading.{payloadOf, padded, framing, readRefusal, refusedCommand, command, readCommand}
 use Rattle.demorad.specs.declared.Command.{Command}
 use Rattle.demorad.proofs.RuleLaws.{Legal, is-legal, legal-take}
 use Rattle.demorad.proofs.WordLaws.{words-bytes, bytes-words, length-words, take-padded}
@@ -66,7 +67,8 @@ module _ (rd : Bool) (code count : ℕ) (words : List ℕ) (ok : legality code c
 
   unrefused : readRefusal image ≡ 0
   unfolding readRefusal
-  unrefused = rw (eq-eqb (framing image) 0 frames, pays, counts, head, header-code code count (legal .small) (legal .few) rd) (legal-take code count words ok)
+  unrefused =
+      rw (eq-eqb (framing image) 0 frames, pays, counts, head, header-code code count (legal .small) (legal .few) rd) (legal-take code count words ok)
 
   -- what is written reads back: RD, the code, the count and the counted words, the rest 0
   pub written-reads-back : readCommand (commandBytes rd code count words) ≡ command rd code count (padded (take count words))

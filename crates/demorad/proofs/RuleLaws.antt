@@ -1,4 +1,5 @@
--- What the table of rules says of every code, and each case of a command's legality. `Verdict` is the one case distinction that all later proofs go by.
+-- What the table of rules says of every code, and each case of a command's legality. `Verdict` is the one case distinction that all later
+-- proofs go by.
 use mathlib.Core.Path.{_≡_, refl, sym, ap, _∙_, subst}
 use mathlib.Core.Bool.{Bool, true, false, cond, not, _&&_}
 use mathlib.Core.List.{List, [], _∷_}
@@ -36,7 +37,8 @@ every P code (row ∷ rows) u (h, hs) = chosen P (eqb code (row .0)) (row .1) (l
 -- a selection is one of the first two payload words
 pub index-small : (code : ℕ) → ruleOf code .index < 2
 unfolding ruleOf Every
-index-small code = every (λ r. r .index < 2) code rules (omega arith) (omega arith, (omega arith, (omega arith, (omega arith, (omega arith, (omega arith, (omega arith, tt)))))))
+index-small code =
+    every (λ r. r .index < 2) code rules (omega arith) (omega arith, (omega arith, (omega arith, (omega arith, (omega arith, (omega arith, (omega arith, tt)))))))
 
 -- a selection is among the fewest words of its code
 pub index-counted : (code : ℕ) → ruleOf code .selects ≡ true → ruleOf code .index < ruleOf code .least
@@ -48,7 +50,8 @@ index-counted code =
 -- no code has more than 30 payload words
 pub most-small : (code : ℕ) → ruleOf code .most ≤ 30
 unfolding ruleOf Every
-most-small code = every (λ r. r .most ≤ 30) code rules (omega arith) (omega arith, (omega arith, (omega arith, (omega arith, (omega arith, (omega arith, (omega arith, tt)))))))
+most-small code =
+    every (λ r. r .most ≤ 30) code rules (omega arith) (omega arith, (omega arith, (omega arith, (omega arith, (omega arith, (omega arith, (omega arith, tt)))))))
 
 -- a known code has its row
 pub known-listed : (code : ℕ) (rows : List (ℕ × Rule)) → lookup code rows .known ≡ true → Listed code (lookup code rows) rows
@@ -137,18 +140,21 @@ module _ (rule : Rule) (count : ℕ) (words : List ℕ) where
   judged-free k l m s = rw (k, le-leb (rule .least) count l, le-leb count (rule .most) m, s)
 
   -- 46: the selection is above its highest value
-  pub judged-out : rule .known ≡ true → rule .least ≤ count → count ≤ rule .most → rule .selects ≡ true → rule .top < selected rule words → _≡_ {A = ℕ} 46 (judged rule count words)
+  pub judged-out : rule .known ≡ true → rule .least ≤ count → count ≤ rule .most → rule .selects ≡ true → rule .top < selected rule words
+      → _≡_ {A = ℕ} 46 (judged rule count words)
   judged-out k l m s o = rw (k, le-leb (rule .least) count l, le-leb count (rule .most) m, s, lt-ltb (rule .top) (selected rule words) o)
 
   -- 0: count and selection fit
-  pub judged-in : rule .known ≡ true → rule .least ≤ count → count ≤ rule .most → rule .selects ≡ true → selected rule words ≤ rule .top → _≡_ {A = ℕ} 0 (judged rule count words)
+  pub judged-in : rule .known ≡ true → rule .least ≤ count → count ≤ rule .most → rule .selects ≡ true → selected rule words ≤ rule .top
+      → _≡_ {A = ℕ} 0 (judged rule count words)
   judged-in k l m s o = rw (k, le-leb (rule .least) count l, le-leb count (rule .most) m, s, le-ltb (rule .top) (selected rule words) o)
 
   -- every command has one
   pub verdict : Verdict (judged rule count words)
   verdict = known (rule .known) refl
     where
-      chosen-word : rule .known ≡ true → rule .least ≤ count → count ≤ rule .most → rule .selects ≡ true → Dec (selected rule words ≤ rule .top) → Verdict (judged rule count words)
+      chosen-word : rule .known ≡ true → rule .least ≤ count → count ≤ rule .most → rule .selects ≡ true
+          → Dec (selected rule words ≤ rule .top) → Verdict (judged rule count words)
       chosen-word k l m s (yes o) = subst Verdict (judged-in k l m s o) (fine k l m (λ t. o))
       chosen-word k l m s (no o) = subst Verdict (judged-out k l m s (omega arith)) (out k l m s (omega arith))
 
@@ -165,7 +171,8 @@ module _ (rule : Rule) (count : ℕ) (words : List ℕ) where
       known true k = counted k (decLe (rule .least) count) (decLe count (rule .most))
 
 -- the refusal by the rule that the code has at hand
-pub by-rule : (code count : ℕ) (words : List ℕ) (rule : Rule) (n : ℕ) → rule ≡ ruleOf code → n ≡ judged rule count words → n ≡ legality code count words
+pub by-rule : (code count : ℕ) (words : List ℕ) (rule : Rule) (n : ℕ) → rule ≡ ruleOf code → n ≡ judged rule count words
+    → n ≡ legality code count words
 unfolding legality
 by-rule code count words rule n e h = h ∙ rw e
 

@@ -29,7 +29,8 @@ header-clear rd code count e = rw e (omega arith)
 -- -- The payload loop
 
 -- a turn
-pub put-turns : (n i at : ℕ) (words out out′ all : List ℕ) → i < n → n ≤ length words → at + 4 ≤ length out → out′ ≡ wordStored out at (getD words i 0)
+pub put-turns : (n i at : ℕ) (words out out′ all : List ℕ) → i < n → n ≤ length words → at + 4 ≤ length out
+    → out′ ≡ wordStored out at (getD words i 0)
     → stored out at (wordBytes (drop i (take n words))) ≡ all → stored out′ (at + 4) (wordBytes (drop (i + 1) (take n words))) ≡ all
 unfolding wordBytes
 put-turns n i at words out out′ all h k l e inv =
@@ -50,7 +51,8 @@ put-ends n i at words out all h inv =
 -- -- The command
 
 -- the bytes of a command: four for the header and for each counted word
-pub length-command : (rd : Bool) (code count : ℕ) (words : List ℕ) → count ≤ length words → length (commandBytes rd code count words) ≡ 4 * (count + 1)
+pub length-command : (rd : Bool) (code count : ℕ) (words : List ℕ) → count ≤ length words
+    → length (commandBytes rd code count words) ≡ 4 * (count + 1)
 unfolding commandBytes
 length-command rd code count words h =
     let t = length-take-le count words h in

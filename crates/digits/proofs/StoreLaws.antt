@@ -1,4 +1,5 @@
--- Stores into a lent buffer, one piece behind the other, and the three answers of a writer. The engine is `sets-append`: storing two pieces is storing the first, then the second behind it.
+-- Stores into a lent buffer, one piece behind the other, and the three answers of a writer. The engine is `sets-append`: storing two pieces
+-- is storing the first, then the second behind it.
 use mathlib.Core.Path.{_≡_, refl, sym, ap, _∙_}
 use mathlib.Core.List.{List, [], _∷_, _++_, append-nil}
 use Prim.Native.Nat.{ℕ, zero, suc, _+_, _*_, _/_, _%_, _^_, _<_, _≤_}
@@ -54,7 +55,8 @@ unfolding stored
 stored-append l at xs ys = sets-append l at xs ys
 
 -- a piece stored, then what follows it, is both stored at once: the step of every writer
-pub then : (l l′ r : List ℕ) (at n : ℕ) (xs ys : List ℕ) → l′ ≡ stored l at xs → length xs ≡ n → r ≡ stored l′ (at + n) ys → r ≡ stored l at (xs ++ ys)
+pub then : (l l′ r : List ℕ) (at n : ℕ) (xs ys : List ℕ) → l′ ≡ stored l at xs → length xs ≡ n → r ≡ stored l′ (at + n) ys
+    → r ≡ stored l at (xs ++ ys)
 then l l′ r at n xs ys p e q = q ∙ ap (λ (k : List ℕ). stored k (at + n) ys) p ∙ rw (← e) (sym (stored-append l at xs ys))
 
 -- a store keeps the length
@@ -86,7 +88,8 @@ word-unfit l at v h = rw (lt-leb (at + 4) (length l) h)
 -- either way the length stays
 pub length-word-stored : (l : List ℕ) (at v : ℕ) → length (wordStored l at v) ≡ length l
 unfolding wordStored
-length-word-stored l at v = cond-apply length (leb (at + 4) (length l)) (stored l at (toLittle 4 v)) l ∙ rw (length-stored l at (toLittle 4 v)) (cond-same (leb (at + 4) (length l)) (length l))
+length-word-stored l at v =
+    cond-apply length (leb (at + 4) (length l)) (stored l at (toLittle 4 v)) l ∙ rw (length-stored l at (toLittle 4 v)) (cond-same (leb (at + 4) (length l)) (length l))
 
 -- four stores in a row are the number
 pub four-stores : (l : List ℕ) (at v : ℕ) → at + 4 ≤ length l
@@ -101,7 +104,8 @@ pub unfit : (refusal : ℕ) (bytes out : List ℕ) → (refusal ≡ 0 → ⊥) �
 unfit refusal bytes out h = record { answers = rw (ne-eqb refusal 0 h); leaves = rw (ne-eqb refusal 0 h) }
 
 -- the output too short: 51, nothing written
-pub short : (refusal : ℕ) (bytes out : List ℕ) → refusal ≡ 0 → length out < length bytes → Writes refusal bytes out (record { refusal = 51; size = 0 }) out
+pub short : (refusal : ℕ) (bytes out : List ℕ) → refusal ≡ 0 → length out < length bytes
+    → Writes refusal bytes out (record { refusal = 51; size = 0 }) out
 short refusal bytes out h k =
     record {
       answers = rw (eq-eqb refusal 0 h, lt-leb (length bytes) (length out) k);
@@ -109,7 +113,8 @@ short refusal bytes out h k =
     }
 
 -- all written: the byte count, and exactly these bytes changed
-pub done : (refusal : ℕ) (bytes out after : List ℕ) (n : ℕ) → refusal ≡ 0 → length bytes ≡ n → n ≤ length out → after ≡ stored out 0 bytes → Writes refusal bytes out (record { refusal = 0; size = n }) after
+pub done : (refusal : ℕ) (bytes out after : List ℕ) (n : ℕ) → refusal ≡ 0 → length bytes ≡ n → n ≤ length out → after ≡ stored out 0 bytes
+    → Writes refusal bytes out (record { refusal = 0; size = n }) after
 done refusal bytes out after n h e k s =
     record {
       answers = rw (eq-eqb refusal 0 h, le-leb (length bytes) (length out) (omega arith), e);
@@ -126,7 +131,8 @@ pub record Succeeded (refusal : ℕ) (bytes out : List ℕ) (r : Written) (after
   pub buffer : after ≡ bytes ++ drop (length bytes) out
 
 -- the same from the promise
-pub succeeded : (refusal : ℕ) (bytes out : List ℕ) (r : Written) (after : List ℕ) → Writes refusal bytes out r after → r .refusal ≡ 0 → Succeeded refusal bytes out r after
+pub succeeded : (refusal : ℕ) (bytes out : List ℕ) (r : Written) (after : List ℕ) → Writes refusal bytes out r after → r .refusal ≡ 0
+    → Succeeded refusal bytes out r after
 succeeded refusal bytes out r after w z = go (ℕ-discrete refusal 0) (decLe (length bytes) (length out))
   where
     number : r .refusal ≡ writerAnswer refusal bytes out .refusal
@@ -148,7 +154,8 @@ succeeded refusal bytes out r after w z = go (ℕ-discrete refusal 0) (decLe (le
         absurd (e (sym n ∙ z))
 
 -- a writer that refuses changes nothing and counts no byte
-pub refused : (refusal : ℕ) (bytes out : List ℕ) (r : Written) (after : List ℕ) → Writes refusal bytes out r after → (r .refusal ≡ 0 → ⊥) → (after ≡ out) × (r .size ≡ 0)
+pub refused : (refusal : ℕ) (bytes out : List ℕ) (r : Written) (after : List ℕ) → Writes refusal bytes out r after → (r .refusal ≡ 0 → ⊥)
+    → (after ≡ out) × (r .size ≡ 0)
 refused refusal bytes out r after w z = go (ℕ-discrete refusal 0) (decLe (length bytes) (length out))
   where
     number : r .refusal ≡ writerAnswer refusal bytes out .refusal

@@ -40,7 +40,8 @@ join-requires : tie.Need-join-requires
 join-requires c κs = search needs
 
 returns-3 : tie.Need-returns-3
-returns-3 c = let a = c .before .before .before .before .before .before .before .before .args in c .join .ensures ∙ sym (word-joined (a .s .now) (a .at) (omega arith))
+returns-3 c =
+    let a = c .before .before .before .before .before .before .before .before .args in c .join .ensures ∙ sym (word-joined (a .s .now) (a .at) (omega arith))
 
 pub word-at-spec : {M : Type 1} → statement M
 word-at-spec =
