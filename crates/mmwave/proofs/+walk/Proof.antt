@@ -1,3 +1,4 @@
+-- The first record, and then the remaining ones, one fewer; a whole record lies in the room.
 use borrow.Author.Needs.{needs}
 use mathlib.Core.Path.{_≡_, refl, sym, ap, _∙_}
 use native.Mathlib.Omega.{arith}

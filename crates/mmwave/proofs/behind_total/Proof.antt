@@ -1,3 +1,4 @@
+-- Each field goes on from the end of the one before; a legal record count leaves room for the headers.
 use borrow.Author.Needs.{needs}
 use Rattle.mmwave.specs.MmWave.{mmWave}
 use Rattle.mmwave.proofs.Laws.{count-leaves}

@@ -1,3 +1,4 @@
+-- The free field, and then its test.
 use borrow.Author.Needs.{needs}
 use mathlib.Core.Path.{refl, sym, ap, _∙_}
 use Rattle.form.proofs.Laws.{unread, taken, refused}

@@ -1,3 +1,4 @@
+-- Each piece goes on from the end of the one before.
 use borrow.Author.Needs.{needs}
 use mathlib.Core.Path.{refl, sym, ap, _∙_}
 use native.Mathlib.Omega.{arith}

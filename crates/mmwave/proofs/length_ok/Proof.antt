@@ -1,3 +1,4 @@
+-- The conjunction, test by test.
 use borrow.Author.Needs.{needs}
 use Rattle.mmwave.proofs.Laws.{length-both, length-not}
 use borrow.Author.Tests.{eq-eqb, ne-eqb, le-leb, lt-leb, lt-ltb, le-ltb}

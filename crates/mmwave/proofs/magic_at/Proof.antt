@@ -1,3 +1,4 @@
+-- The invariant: the magic from the start is judged as what is left of it from here.
 use mathlib.Core.Path.{_≡_, refl, sym, ap, _∙_}
 use mathlib.Core.List.{List}
 use Prim.Native.Nat.{_≤_, _-_}

@@ -1,3 +1,4 @@
+-- Free bytes, and then the kind.
 use borrow.Author.Needs.{needs}
 use mathlib.Core.Path.{refl, sym, ap, _∙_}
 use Rattle.form.proofs.Laws.{go-on, halt, whole-there}

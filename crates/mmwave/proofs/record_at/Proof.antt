@@ -1,3 +1,4 @@
+-- Type, payload length, payload: each goes on from the end of the one before.
 use borrow.Author.Needs.{needs}
 use mathlib.Core.Path.{refl, sym, ap, _∙_}
 use Rattle.form.proofs.Laws.{go-on, halt, whole-there}

@@ -1,3 +1,4 @@
+-- One arm for each known type; the last one has passed all tests.
 use borrow.Author.Needs.{needs}
 use borrow.Author.Tests.{eq-eqb, ne-eqb, le-leb, lt-leb, lt-ltb, le-ltb}
 use Rattle.mmwave.specs.MmWave.{mmWave, payloadRule}

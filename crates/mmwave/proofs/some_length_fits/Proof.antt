@@ -1,3 +1,4 @@
+-- One arm for each rule.
 use borrow.Author.Needs.{needs}
 use borrow.Author.Tests.{eq-eqb, ne-eqb, le-leb, lt-leb, lt-ltb, le-ltb}
 use mathlib.Core.Path.{refl, sym, ap, _∙_}

@@ -1,3 +1,4 @@
+-- The free field, and then its test by the rule of the type.
 use borrow.Author.Needs.{needs}
 use Rattle.mmwave.proofs.Laws.{type-test}
 use Rattle.mmwave.specs.MmWave.{mmWave}
