@@ -1,0 +1,82 @@
+-- The SiRad wire as a form: `judge sirad 0` is its judgement (paper 01, "SiRad").
+use mathlib.Core.Bool.{Bool, true, false, cond}
+use mathlib.Core.List.{List, [], _∷_}
+use Prim.Native.Nat.{ℕ, zero, suc, _+_, _*_}
+use lib.Dec.{eqb}
+use Rattle.digits.specs.Bytes.{isHex}
+use Rattle.digits.specs.Hex.{digit}
+use Rattle.form.specs.Form.{Form, whole, byte, _>>=_, _>>_}
+use Rattle.form.specs.Pieces.{one}
+use Rattle.sirad.specs.declared.Class.{Class}
+use Rattle.sirad.specs.declared.Class.the-variants.{Hex, Char}
+use Rattle.sirad.specs.declared.Kind.{Kind}
+use Rattle.sirad.specs.declared.Kind.the-variants.{Sized, Targets, Status, Flags, Unknown}
+use Rattle.sirad.specs.Classes.{accepts, reason}
+use Rattle.sirad.specs.Rows.{Piece, classes, blockPieces, dataPieces, tPieces, uPieces, ePieces}
+
+-- -- Parts of a body
+
+-- bytes of these classes, one after the other; the value is v
+unfoldable pub lay : List Class → ℕ → Form
+lay [] v = whole v
+lay (c ∷ cs) v = byte (reason c) (accepts c) (λ _. lay cs v)
+
+-- the bytes of a row, of a frame of this kind
+abbrev pub row : List Piece → ℕ → Form
+row ps kind = lay (classes ps) kind
+
+-- n bytes of one class
+unfoldable pub run : ℕ → Class → Form
+run zero c = whole 0
+run (suc n) c = byte (reason c) (accepts c) (λ _. run n c)
+
+-- format and gain, in front of T and U
+abbrev pub head : Form
+head = lay (Hex ∷ Char ∷ []) 0
+
+-- one block of a T frame
+unfoldable pub block : Form
+block = lay (classes blockPieces) 0
+
+-- n hex digits; the value is their number, with v in front of them
+unfoldable pub number : ℕ → ℕ → Form
+number zero v = whole v
+number (suc n) v = byte 12 isHex (λ b. number n (v * 16 + digit b))
+
+-- -- The frames
+
+-- the size n by 4 hex digits, then what follows it (paper 01, "SiRad", kinds 1 to 3)
+abbrev pub sized : ℕ → Form
+sized kind = do
+  n ← number 4 0
+  row (dataPieces n) kind
+
+-- the identifiers R, P, C, T, U, E
+abbrev pub kindOf : ℕ → Kind
+kindOf b =
+    cond (eqb b 82) (Sized 1)
+    (cond (eqb b 80) (Sized 2)
+    (cond (eqb b 67) (Sized 3) (cond (eqb b 84) Targets (cond (eqb b 85) Status (cond (eqb b 69) Flags Unknown)))))
+
+-- the byte is one of the identifiers
+abbrev pub known : Kind → Bool
+known (Sized kind) = true
+known Targets = true
+known Status = true
+known Flags = true
+known Unknown = false
+
+-- what follows the identifier, up to the stop marker; `Unknown` is refused before it
+unfoldable pub body : Kind → Form
+body (Sized kind) = sized kind
+body Targets = row tPieces 4
+body Status = row uPieces 5
+body Flags = row ePieces 6
+body Unknown = whole 0
+
+-- a frame is byte 33, an identifier, a body, then 13 and 10
+unfoldable pub sirad : Form
+sirad = do
+  one 10 (λ b. eqb b 33)
+  b ← one 11 (λ b. known (kindOf b))
+  body (kindOf b)

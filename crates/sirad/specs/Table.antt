@@ -1,0 +1,45 @@
+-- Paper 01's table of the SiRad frames by byte number: identifier, class of every byte, total bytes.
+use mathlib.Core.Bool.{true, cond}
+use mathlib.Core.Path.{_≡_}
+use mathlib.Core.List.{List}
+use Prim.Native.Nat.{ℕ, _+_, _-_, _%_, _<_, _≤_}
+use lib.Dec.{eqb, ltb, leb}
+use lib.ListN.{length, getD}
+use Rattle.digits.specs.Hex.{hexAt}
+use Rattle.sirad.specs.declared.Class.{Class}
+use Rattle.sirad.specs.declared.Class.the-variants.{Hex, Char, Cr, Lf}
+use Rattle.sirad.specs.Classes.{accepts}
+
+-- column "Id", kinds 1 to 6
+abbrev pub identifier : ℕ → ℕ
+identifier kind =
+    cond (eqb kind 1) 82
+    (cond (eqb kind 2) 80 (cond (eqb kind 3) 67 (cond (eqb kind 4) 84 (cond (eqb kind 5) 85 69))))
+
+-- column "Total bytes", with n the size field
+abbrev pub total : ℕ → ℕ → ℕ
+total kind n = cond (leb kind 3) (16 + n) (cond (eqb kind 4) 230 (cond (eqb kind 5) 26 8))
+
+-- a T block: number 0, distance 1 to 4, magnitude 5, phase 6 to 9, reserved 10 to 13
+abbrev pub blockClass : ℕ → Class
+blockClass j = cond (ltb j 5) Hex (cond (eqb j 5) Char (cond (ltb j 10) Hex Char))
+
+-- column "Body": byte i of a frame, counted from its `!`. Kinds 1 to 3: size 2 to 5, then reserved and data; T: format 2, gain 3, blocks from 4 on; U: gain 3, else digits; E: digits
+abbrev pub bodyClass : ℕ → ℕ → Class
+bodyClass kind i =
+    cond (leb kind 3) (cond (ltb i 6) Hex Char)
+    (cond (eqb kind 4) (cond (ltb i 3) Hex (cond (eqb i 3) Char (blockClass ((i - 4) % 14))))
+    (cond (eqb kind 5) (cond (eqb i 3) Char Hex) Hex))
+
+-- the class of byte i, from the byte behind the identifier on, in a frame of size bytes: the last two are the stop marker
+unfoldable pub classAt : ℕ → ℕ → ℕ → Class
+classAt kind size i = cond (ltb i (size - 2)) (bodyClass kind i) (cond (eqb i (size - 2)) Cr Lf)
+
+-- the bytes are a frame of this kind, by the table
+pub record TableFrame (kind : ℕ) (bs : List ℕ) : Type 0 where
+  pub some : 1 ≤ kind
+  pub most : kind ≤ 6
+  pub size : length bs ≡ total kind (hexAt 4 2 bs)
+  pub start : getD bs 0 0 ≡ 33
+  pub named : getD bs 1 0 ≡ identifier kind
+  pub each : (i : ℕ) → 2 ≤ i → i < length bs → accepts (classAt kind (length bs) i) (getD bs i 0) ≡ true
