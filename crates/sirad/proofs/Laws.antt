@@ -1,17 +1,17 @@
 -- The laws by which the code's functions are proved. Each function judges one part of the form; a law says how a longer part is judged by its first part and then by what is left of it.
 use mathlib.Core.Bool.{Bool, true, false, cond, _&&_, _||_}
 use mathlib.Core.Path.{_≡_, refl, sym, ap, _∙_}
-use mathlib.Core.List.{List, [], _∷_, _++_}
+use mathlib.Core.List.{List, [], _∷_}
 use Prim.Native.Nat.{ℕ, zero, suc, _+_, _*_, _-_, _^_, _<_, _≤_}
 use native.Mathlib.Omega.{arith}
 use native.Mathlib.Nat.{pow-le-pow-right, pow-succ', lt-of-lt-of-le}
 use native.Mathlib.Numerals.{add-one}
-use native.Mathlib.Decide.{decLe}
 use borrow.Author.Tests.{leb-true, eq-eqb, ne-eqb}
 use lib.Dec.{leb}
-use lib.ListN.{length, drop, getD, replicate}
+use lib.ListN.{length, getD}
 use Rattle.digits.specs.Bytes.{within, isHex}
 use Rattle.digits.specs.Hex.{digit}
+use Rattle.digits.proofs.Choices.{and-left, and-right}
 use Rattle.form.specs.declared.Judgement.{Judgement}
 use Rattle.form.specs.declared.Judgement.the-variants.{Whole, Bad, Waiting}
 use Rattle.form.specs.Form.{Form, whole, byte, _>>=_, judge, judgeAt}
@@ -22,8 +22,8 @@ use Rattle.sirad.specs.declared.Class.the-variants.{Hex, Char, Cr, Lf}
 use Rattle.sirad.specs.declared.Kind.{Kind}
 use Rattle.sirad.specs.declared.Kind.the-variants.{Unknown}
 use Rattle.sirad.specs.Classes.{accepts, reason}
-use Rattle.sirad.specs.Rows.{Piece, classes, ending, characters, blocks, dataPieces, tPieces, uPieces, ePieces}
-use Rattle.sirad.specs.Sirad.{lay, row, run, head, block, number, sized, kindOf, known, body, sirad}
+use Rattle.sirad.specs.Rows.{classes, ending, characters, blocks, dataPieces, tPieces, uPieces, ePieces}
+use Rattle.sirad.specs.Sirad.{lay, row, run, head, block, number, kindOf, known, body, sirad}
 
 -- -- One byte
 
@@ -81,22 +81,24 @@ module _ (n : ℕ) (c : Class) (at : ℕ) (s : List ℕ) where
   unfolding run judge
   run-over h = let e : n ≡ 0 = omega arith in rw e
 
+run-split : (m n : ℕ) (c : Class) → m ≤ n → run n c ≡ (run m c >>= (λ _. run (n - m) c))
+unfolding run _>>=_
+run-split zero n c h = let e : n - 0 ≡ n = omega arith in rw e
+run-split (suc m) zero c h = absurd (omega arith)
+run-split (suc m) (suc n) c h =
+    let e : suc n - suc m ≡ n - m = omega arith in
+    ap (λ (p : Form). byte (reason c) (accepts c) (λ _. p)) (run-split m n c (omega arith)) ∙ rw e
+
+module _ (m n : ℕ) (c : Class) (at : ℕ) (s : List ℕ) (h : m ≤ n) where
+  -- the first m bytes pass: the others are left
+  pub part-next : {r : Judgement} {v e : ℕ} → r ≡ judgeAt (run m c) at s → r ≡ Whole v e → judgeAt (run n c) at s ≡ judgeAt (run (n - m) c) e s
+  part-next a b = ap (λ (p : Form). judgeAt p at s) (run-split m n c h) ∙ go-on _ _ _ _ a b
+
+  -- one of the first m bytes does not pass
+  pub part-halts : {r : Judgement} → r ≡ judgeAt (run m c) at s → Halted r → r ≡ judgeAt (run n c) at s
+  part-halts a o = halt _ _ _ _ a o ∙ sym (ap (λ (p : Form). judgeAt p at s) (run-split m n c h))
+
 -- -- The flag of a run: while it is true, the run is judged as what is left of it
-
-and-left : (a b : Bool) → (a && b) ≡ true → a ≡ true
-and-left true b h = refl
-and-left false b h = h
-
-and-right : (a b : Bool) → (a && b) ≡ true → b ≡ true
-and-right true b h = h
-and-right false b h = let z : _≡_ {A = Bool} false true = h in absurd (false-true z)
-  where
-    pick : Bool → ℕ
-    pick true = 1
-    pick false = 0
-
-    false-true : false ≡ true → ⊥
-    false-true e = let z : _≡_ {A = ℕ} 0 1 = ap pick e in omega arith
 
 module _ (s : List ℕ) (from n : ℕ) (c : Class) where
   -- after i bytes of the run
@@ -137,9 +139,6 @@ module _ (s : List ℕ) (from n : ℕ) (c : Class) where
 pub within-low : (low high b : ℕ) → within low high b ≡ true → low ≤ b
 within-low low high b h = leb-true low b (and-left (leb low b) (leb b high) h)
 
-within-high : (low high b : ℕ) → within low high b ≡ true → b ≤ high
-within-high low high b h = leb-true b high (and-right (leb low b) (leb b high) h)
-
 module _ (b : ℕ) where
   -- 0 to 9
   pub digit-figure : within 48 57 b ≡ true → b - 48 ≡ digit b
@@ -155,17 +154,6 @@ module _ (b : ℕ) where
   pub digit-none : within 48 57 b ≡ false → within 65 70 b ≡ false → 0 ≡ digit b
   unfolding digit
   digit-none h l = rw (h, l)
-
-  pub digit-small : digit b < 16
-  digit-small = figure (within 48 57 b) refl
-    where
-      letter : (t : Bool) → within 65 70 b ≡ t → within 48 57 b ≡ false → digit b < 16
-      letter true l h = let e : digit b ≡ b - 55 = sym (digit-letter h l) in omega (arith, within-high 65 70 b l)
-      letter false l h = let e : digit b ≡ 0 = sym (digit-none h l) in omega arith
-
-      figure : (t : Bool) → within 48 57 b ≡ t → digit b < 16
-      figure true h = let e : digit b ≡ b - 48 = sym (digit-figure h) in omega (arith, within-high 48 57 b h)
-      figure false h = letter (within 65 70 b) refl h
 
 -- -- Numbers
 

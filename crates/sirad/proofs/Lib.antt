@@ -1,1 +1,4 @@
 pub mod Laws
+pub mod Theorems
+pub mod Starts
+pub mod TableLaws

@@ -2,3 +2,5 @@ pub mod Classes
 pub mod Rows
 pub mod Sirad
 pub mod Table
+pub mod Edges
+pub mod Steps

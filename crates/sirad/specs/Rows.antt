@@ -1,7 +1,9 @@
 -- Each frame's body as a row of pieces, from the byte behind the identifier to the stop marker (paper 01, "SiRad"; document 000, figures 4 to 6; document 003, error frame).
 -- The judgement, and the field readers and writers, go by these rows.
 use mathlib.Core.List.{List, [], _∷_, _++_}
+use mathlib.Core.Bool.{cond}
 use Prim.Native.Nat.{ℕ, zero, suc}
+use lib.Dec.{eqb, leb}
 use lib.ListN.{replicate}
 use Rattle.sirad.specs.declared.Class.{Class}
 use Rattle.sirad.specs.declared.Class.the-variants.{Hex, Char, Cr, Lf}
@@ -60,3 +62,7 @@ uPieces = hex 1 ∷ char ∷ hex 4 ∷ hex 4 ∷ hex 4 ∷ hex 4 ∷ hex 4 ∷ e
 -- E (kind 6): flags
 abbrev pub ePieces : List Piece
 ePieces = hex 4 ∷ ending
+
+-- the row of a kind from 1 to 6, with n the size field
+abbrev pub rowOf : ℕ → ℕ → List Piece
+rowOf kind n = cond (leb kind 3) (rPieces n) (cond (eqb kind 4) tPieces (cond (eqb kind 5) uPieces ePieces))

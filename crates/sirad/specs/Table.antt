@@ -4,11 +4,12 @@ use mathlib.Core.Path.{_≡_}
 use mathlib.Core.List.{List}
 use Prim.Native.Nat.{ℕ, _+_, _-_, _%_, _<_, _≤_}
 use lib.Dec.{eqb, ltb, leb}
-use lib.ListN.{length, getD}
+use lib.ListN.{length, getD, drop}
 use Rattle.digits.specs.Hex.{hexAt}
 use Rattle.sirad.specs.declared.Class.{Class}
 use Rattle.sirad.specs.declared.Class.the-variants.{Hex, Char, Cr, Lf}
-use Rattle.sirad.specs.Classes.{accepts}
+use Rattle.sirad.specs.Classes.{accepts, Passes}
+use Rattle.sirad.specs.Rows.{classes, rowOf}
 
 -- column "Id", kinds 1 to 6
 abbrev pub identifier : ℕ → ℕ
@@ -43,3 +44,11 @@ pub record TableFrame (kind : ℕ) (bs : List ℕ) : Type 0 where
   pub start : getD bs 0 0 ≡ 33
   pub named : getD bs 1 0 ≡ identifier kind
   pub each : (i : ℕ) → 2 ≤ i → i < length bs → accepts (classAt kind (length bs) i) (getD bs i 0) ≡ true
+
+-- the bytes are a frame of this kind, by its row of pieces
+pub record RowFrame (kind : ℕ) (bs : List ℕ) : Type 0 where
+  pub some : 1 ≤ kind
+  pub most : kind ≤ 6
+  pub start : getD bs 0 0 ≡ 33
+  pub named : getD bs 1 0 ≡ identifier kind
+  pub passes : Passes (classes (rowOf kind (hexAt 4 2 bs))) (drop 2 bs)

@@ -3,7 +3,6 @@
 use form::Judgement;
 ghost use mathlib.Core.Path.{_≡_};
 ghost use mathlib.Core.Bool.{true, _&&_, _||_};
-ghost use mathlib.Core.List.{[], _∷_};
 ghost use Prim.Native.Nat.{_+_, _≤_, _<_};
 ghost use lib.ListN.{length};
 ghost use Rattle.digits.specs.Bytes.{within, isHex};
@@ -12,7 +11,8 @@ ghost use Rattle.form.specs.Form.{judge as Form·judge, judgeAt};
 ghost use Rattle.form.specs.Pieces.{one};
 ghost use Rattle.sirad.specs.Classes.{accepts, reason};
 ghost use Rattle.sirad.specs.Rows.{ending, blocks, tPieces, uPieces, ePieces};
-ghost use Rattle.sirad.specs.Sirad.{lay, row, run, number, block, head, sized, kindOf, sirad};
+ghost use Rattle.sirad.specs.Sirad.{row, run, number, block, head, sized, kindOf, sirad};
+ghost use Rattle.sirad.specs.Steps.{StepOf};
 
 // The byte that starts every frame and stands nowhere else in one.
 pub const START_MARKER: u8 = 33;
@@ -50,6 +50,9 @@ const SIZE_DIGITS: usize = 4;
 const RESERVED: usize = 8;
 
 const BLOCKS: usize = 16;
+
+// Bytes that are tested together; any number from 1 on would do.
+const CHUNK: usize = 64;
 
 // The classes of the bytes behind the identifier.
 pub enum Class {
@@ -193,7 +196,7 @@ fn hexes(s: &[u8], from: usize, n: usize) -> Judgement
     span(s, from, n, Class::Hex)
 }
 
-fn chars(s: &[u8], from: usize, n: usize) -> Judgement
+fn few_chars(s: &[u8], from: usize, n: usize) -> Judgement
     ensures { λ r. ⌜ r ≡ judgeAt (run n Class.Char) from (now (s .entry)) ⌝ }
 {
     if from <= s.len() {
@@ -205,6 +208,30 @@ fn chars(s: &[u8], from: usize, n: usize) -> Judgement
         }
     }
     span(s, from, n, Class::Char)
+}
+
+fn step_of(left: usize) -> usize
+    ensures { λ r. ⌜ StepOf left r ⌝ }
+{
+    if left < CHUNK { left } else { CHUNK }
+}
+
+// n characters, a chunk at a time: a size off the wire costs no more than a chunk behind the byte that fails.
+fn chars(s: &[u8], from: usize, n: usize) -> Judgement
+    ensures { λ r. ⌜ r ≡ judgeAt (run n Class.Char) from (now (s .entry)) ⌝ }
+{
+    let mut at = from;
+    let mut left = n;
+    while 0 < left {
+        let step = step_of(left);
+        let a = few_chars(s, at, step);
+        let Judgement::Whole(_, e) = a else {
+            return a;
+        };
+        at = e;
+        left = left - step;
+    }
+    Judgement::Whole(0, at)
 }
 
 // The number of n hex digits, which fits.

@@ -1,15 +1,12 @@
-use mathlib.Core.Bool.{true}
+-- `sirad::all_of` meets its contract. While the flag is true, what is left of the run is judged as the whole run is.
 use Prim.Native.Nat.{_≤_, _-_}
-use Rattle.sirad.proofs.Laws.{Seen, seen-none, seen-next, seen-all}
 use borrow.Author.Needs.{needs}
+use mathlib.Core.Bool.{true}
+use mathlib.Core.Path.{_≡_}
 use native.Mathlib.Omega.{arith}
-use mathlib.Core.Path.{_≡_, refl, sym, ap, _∙_}
+use Rattle.sirad.proofs.Laws.{Seen, seen-none, seen-next, seen-all}
 use Rattle.sirad.proofs.all_of.Statement.{statement}
 use Rattle.sirad.proofs.all_of.Tie as tie
-use Rattle.sirad.proofs.all_of.Reads as reads
-use Rattle.sirad.proofs.all_of.Lts as lts
-use Rattle.sirad.proofs.both.Reads as both-reads
-use Rattle.sirad.proofs.is_of.Reads as is-of-reads
 
 abbrev Inv-loop : tie.InvT-loop
 Inv-loop s from n c ok₀ i₀ ok i = (i ≤ n) × (ok ≡ true → Seen s from n c i)
@@ -17,39 +14,30 @@ Inv-loop s from n c ok₀ i₀ ok i = (i ≤ n) × (ok ≡ true → Seen s from 
 abbrev μ-loop : tie.MeasureT-loop
 μ-loop s from n c ok₀ i₀ ok i = n - i
 
--- src/lib.rt:161:5
 loop-holds : tie.Need-loop-holds Inv-loop μ-loop
 loop-holds c = (omega arith, λ _. seen-none _ _ _ _)
 
--- src/lib.rt:162:28
 add-is-of : tie.Need-add-is-of Inv-loop μ-loop
 add-is-of c = omega arith
 
--- src/lib.rt:162:26
 shared-slice-read-is-of : tie.Need-shared-slice-read-is-of Inv-loop μ-loop
 shared-slice-read-is-of c = omega arith
 
--- src/lib.rt:162:13
 is-of-requires : tie.Need-is-of-requires Inv-loop μ-loop
 is-of-requires c κs = search needs
 
--- src/lib.rt:163:9
 both-requires : tie.Need-both-requires Inv-loop μ-loop
 both-requires c κs = search needs
 
--- src/lib.rt:164:13
 add-i : tie.Need-add-i Inv-loop μ-loop
 add-i c = omega arith
 
--- src/lib.rt:161:5
 loop-less : tie.Need-loop-less Inv-loop μ-loop
 loop-less c = omega arith
 
--- src/lib.rt:161:5
 loop-again : tie.Need-loop-again Inv-loop μ-loop
 loop-again c = let a = c .before .before .before .before .before .before .args in let l = c .before .before .before .before .loop in (omega arith, seen-next (a .s .now) (a .from) (a .n) (a .c) (l .i) (l .ok) (c .before .is-of .result) (c .both .result) (c .before .before .before .loop-test .taken) (c .before .before .before .before .before .before .pre) (l .inv .1) (c .before .is-of .ensures) (c .both .ensures))
 
--- src/lib.rt:155:1
 returns : tie.Need-returns Inv-loop μ-loop
 returns c = λ y. let a = c .before .before .before .args in let l = c .before .loop in seen-all (a .s .now) (a .from) (a .n) (a .c) (l .i) (l .inv .0) (c .loop-test .left) (l .inv .1 y)
 

@@ -1,15 +1,12 @@
-use borrow.Author.Tests.{le-leb, lt-leb, eq-eqb, ne-eqb}
+-- `sirad::between` meets its contract. Both tests decide the Bool.
 use borrow.Author.Needs.{needs}
+use borrow.Author.Tests.{le-leb, lt-leb}
 use Rattle.sirad.proofs.between.Statement.{statement}
 use Rattle.sirad.proofs.between.Tie as tie
-use Rattle.sirad.proofs.between.Reads as reads
-use Rattle.sirad.proofs.between.Lts as lts
 
--- src/lib.rt:73:1
 returns : tie.Need-returns
 returns c = search (needs, le-leb, lt-leb)
 
--- src/lib.rt:73:1
 returns-2 : tie.Need-returns-2
 returns-2 c = search (needs, le-leb, lt-leb)
 

@@ -1,16 +1,12 @@
+-- `sirad::blocks_from` meets its contract. What is left of the blocks is judged as all are.
+use borrow.Author.Needs.{needs}
+use mathlib.Core.Path.{_≡_, refl, sym, _∙_}
+use Rattle.form.specs.Form.{judgeAt}
 use Rattle.sirad.specs.Rows.{blocks}
 use Rattle.sirad.specs.Sirad.{row}
-use Rattle.form.specs.Form.{judgeAt}
 use Rattle.sirad.proofs.Laws.{blocks-next, blocks-halt, blocks-over}
-use borrow.Author.Needs.{needs}
-use native.Mathlib.Omega.{arith}
-use mathlib.Core.Path.{_≡_, refl, sym, ap, _∙_}
 use Rattle.sirad.proofs.blocks_from.Statement.{statement}
 use Rattle.sirad.proofs.blocks_from.Tie as tie
-use Rattle.sirad.proofs.blocks_from.Reads as reads
-use Rattle.sirad.proofs.blocks_from.Lts as lts
-use Rattle.sirad.proofs.block_at.Reads as block-at-reads
-use Rattle.sirad.proofs.stop.Reads as stop-reads
 
 abbrev Inv-loop : tie.InvT-loop
 Inv-loop s from n at₀ left₀ at left = judgeAt (row (blocks n) 4) from s ≡ judgeAt (row (blocks left) 4) at s
@@ -18,39 +14,30 @@ Inv-loop s from n at₀ left₀ at left = judgeAt (row (blocks n) 4) from s ≡ 
 abbrev μ-loop : tie.MeasureT-loop
 μ-loop s from n at₀ left₀ at left = left
 
--- src/lib.rt:307:5
 loop-holds : tie.Need-loop-holds Inv-loop μ-loop
 loop-holds c = refl
 
--- src/lib.rt:308:13
 block-at-requires : tie.Need-block-at-requires Inv-loop μ-loop
 block-at-requires c κs = search needs
 
--- src/lib.rt:309:33
 enum-known-a : tie.Need-enum-known-a Inv-loop μ-loop
 enum-known-a c = search needs
 
--- src/lib.rt:310:13
 returns : tie.Need-returns Inv-loop μ-loop
 returns c = blocks-halt _ _ _ (c .before .before .loop-test .taken) (c .before .block-at .ensures) (c .match .keys2) ∙ sym (c .before .before .before .loop .inv)
 
--- src/lib.rt:313:16
 sub-left : tie.Need-sub-left Inv-loop μ-loop
 sub-left c = search needs
 
--- src/lib.rt:307:5
 loop-less : tie.Need-loop-less Inv-loop μ-loop
 loop-less c = search needs
 
--- src/lib.rt:307:5
 loop-again : tie.Need-loop-again Inv-loop μ-loop
 loop-again c = c .before .before .before .before .before .loop .inv ∙ blocks-next _ _ _ (c .before .before .before .before .loop-test .taken) (c .before .before .before .block-at .ensures) (c .before .a .given .1)
 
--- src/lib.rt:315:5
 stop-requires : tie.Need-stop-requires Inv-loop μ-loop
 stop-requires c κs = search needs
 
--- src/lib.rt:302:1
 returns-2 : tie.Need-returns-2 Inv-loop μ-loop
 returns-2 c = c .stop .ensures ∙ blocks-over _ _ _ (c .before .loop-test .left) ∙ sym (c .before .before .loop .inv)
 

@@ -1,35 +1,59 @@
-use mathlib.Core.Path.{_≡_, refl, sym, ap, _∙_}
+-- `sirad::chars` meets its contract. What is left of the run is judged as the whole run is; each turn takes a part of it.
 use borrow.Author.Needs.{needs}
+use mathlib.Core.Path.{_≡_, refl, sym, _∙_}
+use native.Mathlib.Omega.{arith}
+use Rattle.form.specs.Form.{judgeAt}
+use Rattle.sirad.specs.Sirad.{run}
+use Rattle.sirad.specs.declared.Class.the-variants.{Char}
+use Rattle.sirad.proofs.Laws.{run-over, part-next, part-halts}
 use Rattle.sirad.proofs.chars.Statement.{statement}
 use Rattle.sirad.proofs.chars.Tie as tie
-use Rattle.sirad.proofs.chars.Reads as reads
-use Rattle.sirad.proofs.chars.Lts as lts
-use Rattle.sirad.proofs.all_of.Reads as all-of-reads
-use Rattle.sirad.proofs.span.Reads as span-reads
 
--- src/lib.rt:188:17
-sub-if2 : tie.Need-sub-if2
-sub-if2 c = search needs
+abbrev Inv-loop : tie.InvT-loop
+Inv-loop s from n at₀ left₀ at left = judgeAt (run n Char) from s ≡ judgeAt (run left Char) at s
 
--- src/lib.rt:189:16
-all-of-requires : tie.Need-all-of-requires
-all-of-requires c κs = search needs
+abbrev μ-loop : tie.MeasureT-loop
+μ-loop s from n at₀ left₀ at left = left
 
--- src/lib.rt:190:27
-add-end : tie.Need-add-end
-add-end c = search needs
+loop-holds : tie.Need-loop-holds Inv-loop μ-loop
+loop-holds c = refl
 
--- src/lib.rt:191:17
-returns : tie.Need-returns
-returns c = sym (c .before .all-of .ensures (c .if3 .taken))
+step-of-requires : tie.Need-step-of-requires Inv-loop μ-loop
+step-of-requires c κs = search needs
 
--- src/lib.rt:195:5
-span-requires : tie.Need-span-requires
-span-requires c κs = search needs
+few-chars-requires : tie.Need-few-chars-requires Inv-loop μ-loop
+few-chars-requires c κs = search needs
 
--- src/lib.rt:184:1
-returns-2 : tie.Need-returns-2
-returns-2 c = search needs
+enum-known-a : tie.Need-enum-known-a Inv-loop μ-loop
+enum-known-a c = search needs
+
+returns : tie.Need-returns Inv-loop μ-loop
+returns c = part-halts _ _ _ _ _ (c .before .before .step-of .ensures .most) (c .before .few-chars .ensures) (c .match .keys2) ∙ sym (c .before .before .before .before .loop .inv)
+
+sub-left : tie.Need-sub-left Inv-loop μ-loop
+sub-left c = omega (arith, c .before .before .before .before .step-of .ensures .most)
+
+loop-less : tie.Need-loop-less Inv-loop μ-loop
+loop-less c = omega (arith, c .before .before .before .before .step-of .ensures .most, c .before .before .before .before .step-of .ensures .some (c .before .before .before .before .before .loop-test .taken))
+
+loop-again : tie.Need-loop-again Inv-loop μ-loop
+loop-again c = c .before .before .before .before .before .before .loop .inv ∙ part-next _ _ _ _ _ (c .before .before .before .before .step-of .ensures .most) (c .before .before .before .few-chars .ensures) (c .before .a .given .1)
+
+returns-2 : tie.Need-returns-2 Inv-loop μ-loop
+returns-2 c = run-over _ _ _ _ (c .loop-test .left) ∙ sym (c .before .loop .inv)
 
 pub chars-spec : {M : Type 1} → statement M
-chars-spec = tie.close (tie.spec sub-if2 all-of-requires add-end returns span-requires returns-2)
+chars-spec =
+    tie.close
+    (tie.spec
+    Inv-loop
+    μ-loop
+    loop-holds
+    step-of-requires
+    few-chars-requires
+    enum-known-a
+    returns
+    sub-left
+    loop-less
+    loop-again
+    returns-2)

@@ -1,56 +1,42 @@
+-- `sirad::data_frame` meets its contract. The size, the run of reserved bytes and data, the stop marker.
+use borrow.Author.Needs.{needs}
+use mathlib.Core.Path.{sym, _∙_}
+use Rattle.form.proofs.Laws.{go-on, halt}
 use Rattle.sirad.specs.Rows.{dataPieces}
 use Rattle.sirad.specs.Sirad.{row}
 use Rattle.sirad.proofs.Laws.{data-form}
-use Rattle.form.proofs.Laws.{go-on, halt}
-use mathlib.Core.Path.{_≡_, refl, sym, ap, _∙_}
-use borrow.Author.Needs.{needs}
 use Rattle.sirad.proofs.data_frame.Statement.{statement}
 use Rattle.sirad.proofs.data_frame.Tie as tie
-use Rattle.sirad.proofs.data_frame.Reads as reads
-use Rattle.sirad.proofs.data_frame.Lts as lts
-use Rattle.sirad.proofs.chars.Reads as chars-reads
-use Rattle.sirad.proofs.hex_number.Reads as hex-number-reads
-use Rattle.sirad.proofs.stop.Reads as stop-reads
 
--- src/lib.rt:323:9
 hex-number-requires : tie.Need-hex-number-requires
 hex-number-requires c κs = search needs
 
--- src/lib.rt:324:26
 enum-known-a : tie.Need-enum-known-a
 enum-known-a c = search needs
 
--- src/lib.rt:325:9
 returns : tie.Need-returns
 returns c = halt _ (λ n. row (dataPieces n) (c .before .before .before .args .kind)) _ _ (c .before .hex-number .ensures) (c .match .keys2)
 
--- src/lib.rt:327:17
 cast-count : tie.Need-cast-count
 cast-count c = search needs
 
--- src/lib.rt:327:17
 add-count : tie.Need-add-count
 add-count c = search needs
 
--- src/lib.rt:328:9
 chars-requires : tie.Need-chars-requires
 chars-requires c κs = search needs
 
--- src/lib.rt:329:29
 enum-known-b : tie.Need-enum-known-b
 enum-known-b c = search needs
 
--- src/lib.rt:330:9
 returns-2 : tie.Need-returns-2
 returns-2 c = halt _ _ _ _ (c .before .chars .ensures) (c .match2 .keys2)
     ∙ sym (data-form _ _ _ _)
     ∙ sym (go-on _ (λ n. row (dataPieces n) (c .before .before .before .before .before .before .before .args .kind)) _ _ (c .before .before .before .before .before .hex-number .ensures) (c .before .before .before .a .given .1))
 
--- src/lib.rt:332:5
 stop-requires : tie.Need-stop-requires
 stop-requires c κs = search needs
 
--- src/lib.rt:320:1
 returns-3 : tie.Need-returns-3
 returns-3 c = c .stop .ensures
     ∙ sym (go-on _ _ _ _ (c .before .before .before .before .chars .ensures) (c .before .before .b .given .1))

@@ -1,38 +1,29 @@
-use Rattle.sirad.proofs.Laws.{within-low, digit-figure, digit-letter, digit-none}
-use native.Mathlib.Omega.{arith}
-use mathlib.Core.Path.{_≡_, refl, sym, ap, _∙_}
+-- `sirad::digit_of` meets its contract. A figure, a letter, or neither.
 use borrow.Author.Needs.{needs}
+use mathlib.Core.Path.{sym, _∙_}
+use native.Mathlib.Omega.{arith}
+use Rattle.sirad.proofs.Laws.{within-low, digit-figure, digit-letter, digit-none}
 use Rattle.sirad.proofs.digit_of.Statement.{statement}
 use Rattle.sirad.proofs.digit_of.Tie as tie
-use Rattle.sirad.proofs.digit_of.Reads as reads
-use Rattle.sirad.proofs.digit_of.Lts as lts
-use Rattle.sirad.proofs.between.Reads as between-reads
 
--- src/lib.rt:112:8
 between-requires : tie.Need-between-requires
 between-requires c κs = search needs
 
--- src/lib.rt:113:16
 sub-result : tie.Need-sub-result
 sub-result c = within-low 48 57 (c .before .before .args .b) (sym (c .before .between .ensures) ∙ c .if1 .taken)
 
--- src/lib.rt:113:9
 returns : tie.Need-returns
 returns c = digit-figure (c .before .before .args .b) (sym (c .before .between .ensures) ∙ c .if1 .taken)
 
--- src/lib.rt:115:8
 between-requires-2 : tie.Need-between-requires-2
 between-requires-2 c κs = search needs
 
--- src/lib.rt:116:16
 sub-result-2 : tie.Need-sub-result-2
 sub-result-2 c = let h = within-low 65 70 (c .before .before .before .before .args .b) (sym (c .before .between2 .ensures) ∙ c .if2 .taken) in omega arith
 
--- src/lib.rt:116:9
 returns-2 : tie.Need-returns-2
 returns-2 c = digit-letter (c .before .before .before .before .args .b) (sym (c .before .before .before .between .ensures) ∙ c .before .before .if1 .left) (sym (c .before .between2 .ensures) ∙ c .if2 .taken)
 
--- src/lib.rt:109:1
 returns-3 : tie.Need-returns-3
 returns-3 c = digit-none (c .before .before .before .before .args .b) (sym (c .before .before .before .between .ensures) ∙ c .before .before .if1 .left) (sym (c .before .between2 .ensures) ∙ c .if2 .left)
 

@@ -1,102 +1,76 @@
+-- `sirad::judge` meets its contract. Start marker, identifier, then the body that it announces.
+use borrow.Author.Needs.{needs}
+use mathlib.Core.Path.{refl, sym, _∙_}
 use Rattle.sirad.specs.Sirad.{body}
 use Rattle.sirad.proofs.Laws.{judge-none, judge-no-start, judge-start, judge-body, judge-unknown}
-use mathlib.Core.Path.{_≡_, refl, sym, ap, _∙_}
-use borrow.Author.Needs.{needs}
 use Rattle.sirad.proofs.judge.Statement.{statement}
 use Rattle.sirad.proofs.judge.Tie as tie
-use Rattle.sirad.proofs.judge.Reads as reads
-use Rattle.sirad.proofs.judge.Lts as lts
-use Rattle.sirad.proofs.data_frame.Reads as data-frame-reads
-use Rattle.sirad.proofs.error_flags.Reads as error-flags-reads
-use Rattle.sirad.proofs.kind_of.Reads as kind-of-reads
-use Rattle.sirad.proofs.status_update.Reads as status-update-reads
-use Rattle.sirad.proofs.target_list.Reads as target-list-reads
 
--- src/lib.rt:389:9
 returns : tie.Need-returns
 returns c = judge-none _ (c .if1 .taken)
 
--- src/lib.rt:391:8
 shared-slice-read-first : tie.Need-shared-slice-read-first
 shared-slice-read-first c = search needs
 
--- src/lib.rt:392:9
 returns-2 : tie.Need-returns-2
 returns-2 c = judge-no-start _ (c .before .before .if1 .left) (c .if2 .taken)
 
--- src/lib.rt:395:9
 returns-3 : tie.Need-returns-3
 returns-3 c = judge-start _ (c .before .before .before .if1 .left) (c .before .if2 .left) (c .if3 .taken)
 
--- src/lib.rt:397:24
 shared-slice-read-kind-of : tie.Need-shared-slice-read-kind-of
 shared-slice-read-kind-of c = search needs
 
--- src/lib.rt:397:9
 kind-of-requires : tie.Need-kind-of-requires
 kind-of-requires c κs = search needs
 
--- src/lib.rt:399:21
 enum-known-kind : tie.Need-enum-known-kind
 enum-known-kind c = search needs
 
--- src/lib.rt:399:27
 data-frame-requires : tie.Need-data-frame-requires
 data-frame-requires c κs = search needs
 
--- src/lib.rt:400:26
 enum-told : tie.Need-enum-told
 enum-told c = search needs
 
--- src/lib.rt:400:26
 target-list-requires : tie.Need-target-list-requires
 target-list-requires c κs = search needs
 
--- src/lib.rt:401:25
 enum-told-2 : tie.Need-enum-told-2
 enum-told-2 c = search needs
 
--- src/lib.rt:401:25
 status-update-requires : tie.Need-status-update-requires
 status-update-requires c κs = search needs
 
--- src/lib.rt:402:24
 enum-told-3 : tie.Need-enum-told-3
 enum-told-3 c = search needs
 
--- src/lib.rt:402:24
 error-flags-requires : tie.Need-error-flags-requires
 error-flags-requires c κs = search needs
 
--- src/lib.rt:403:26
 enum-told-4 : tie.Need-enum-told-4
 enum-told-4 c = search needs
 
--- src/lib.rt:385:1
 returns-4 : tie.Need-returns-4
 unfolding body
 returns-4 c = c .data-frame .ensures
     ∙ sym (judge-body _ (c .before .before .before .before .before .before .if3 .left) (c .before .before .before .before .before .before .before .if2 .left) _ (sym (c .before .before .before .before .kind-of .ensures) ∙ c .before .before .kind .given .1) refl)
 
--- src/lib.rt:385:1
 returns-5 : tie.Need-returns-5
 unfolding body
 returns-5 c = c .target-list .ensures
     ∙ sym (judge-body _ (c .before .before .before .before .before .if3 .left) (c .before .before .before .before .before .before .if2 .left) _ (sym (c .before .before .before .kind-of .ensures) ∙ c .before .enum-told .given .1) refl)
 
--- src/lib.rt:385:1
 returns-6 : tie.Need-returns-6
 unfolding body
 returns-6 c = c .status-update .ensures
     ∙ sym (judge-body _ (c .before .before .before .before .before .if3 .left) (c .before .before .before .before .before .before .if2 .left) _ (sym (c .before .before .before .kind-of .ensures) ∙ c .before .enum-told2 .given .1) refl)
 
--- src/lib.rt:385:1
 returns-7 : tie.Need-returns-7
 unfolding body
 returns-7 c = c .error-flags .ensures
     ∙ sym (judge-body _ (c .before .before .before .before .before .if3 .left) (c .before .before .before .before .before .before .if2 .left) _ (sym (c .before .before .before .kind-of .ensures) ∙ c .before .enum-told3 .given .1) refl)
 
--- src/lib.rt:385:1
 returns-8 : tie.Need-returns-8
 returns-8 c = judge-unknown _ (c .before .before .before .before .if3 .left) (c .before .before .before .before .before .if2 .left) (sym (c .before .before .kind-of .ensures) ∙ c .enum-told4 .given .1)
 

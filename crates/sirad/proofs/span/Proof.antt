@@ -1,14 +1,11 @@
-use Rattle.sirad.specs.Sirad.{run}
-use Rattle.form.specs.Form.{judgeAt}
-use Rattle.sirad.proofs.Laws.{run-next, run-halts, run-over}
+-- `sirad::span` meets its contract. What is left of the run is judged as the whole run is.
 use borrow.Author.Needs.{needs}
-use native.Mathlib.Omega.{arith}
-use mathlib.Core.Path.{_≡_, refl, sym, ap, _∙_}
+use mathlib.Core.Path.{_≡_, refl, sym, _∙_}
+use Rattle.form.specs.Form.{judgeAt}
+use Rattle.sirad.specs.Sirad.{run}
+use Rattle.sirad.proofs.Laws.{run-next, run-halts, run-over}
 use Rattle.sirad.proofs.span.Statement.{statement}
 use Rattle.sirad.proofs.span.Tie as tie
-use Rattle.sirad.proofs.span.Reads as reads
-use Rattle.sirad.proofs.span.Lts as lts
-use Rattle.sirad.proofs.byte_of.Reads as byte-of-reads
 
 abbrev Inv-loop : tie.InvT-loop
 Inv-loop s from n c at₀ left₀ at left = judgeAt (run n c) from s ≡ judgeAt (run left c) at s
@@ -16,35 +13,27 @@ Inv-loop s from n c at₀ left₀ at left = judgeAt (run n c) from s ≡ judgeAt
 abbrev μ-loop : tie.MeasureT-loop
 μ-loop s from n c at₀ left₀ at left = left
 
--- src/lib.rt:143:5
 loop-holds : tie.Need-loop-holds Inv-loop μ-loop
 loop-holds c = refl
 
--- src/lib.rt:144:13
 byte-of-requires : tie.Need-byte-of-requires Inv-loop μ-loop
 byte-of-requires c κs = search needs
 
--- src/lib.rt:145:33
 enum-known-a : tie.Need-enum-known-a Inv-loop μ-loop
 enum-known-a c = search needs
 
--- src/lib.rt:146:13
 returns : tie.Need-returns Inv-loop μ-loop
 returns c = run-halts _ _ _ _ (c .before .before .loop-test .taken) (c .before .byte-of .ensures) (c .match .keys2) ∙ sym (c .before .before .before .loop .inv)
 
--- src/lib.rt:149:16
 sub-left : tie.Need-sub-left Inv-loop μ-loop
 sub-left c = search needs
 
--- src/lib.rt:143:5
 loop-less : tie.Need-loop-less Inv-loop μ-loop
 loop-less c = search needs
 
--- src/lib.rt:143:5
 loop-again : tie.Need-loop-again Inv-loop μ-loop
 loop-again c = c .before .before .before .before .before .loop .inv ∙ run-next _ _ _ _ (c .before .before .before .before .loop-test .taken) (c .before .before .before .byte-of .ensures) (c .before .a .given .1)
 
--- src/lib.rt:138:1
 returns-2 : tie.Need-returns-2 Inv-loop μ-loop
 returns-2 c = run-over _ _ _ _ (c .loop-test .left) ∙ sym (c .before .loop .inv)
 

@@ -1,47 +1,35 @@
-use Rattle.sirad.proofs.Laws.{status-form}
-use Rattle.form.proofs.Laws.{go-on, halt}
-use mathlib.Core.Path.{_≡_, refl, sym, ap, _∙_}
+-- `sirad::status_update` meets its contract. Format and gain, the digits, the stop marker.
 use borrow.Author.Needs.{needs}
+use mathlib.Core.Path.{sym, _∙_}
+use Rattle.form.proofs.Laws.{go-on, halt}
+use Rattle.sirad.proofs.Laws.{status-form}
 use Rattle.sirad.proofs.status_update.Statement.{statement}
 use Rattle.sirad.proofs.status_update.Tie as tie
-use Rattle.sirad.proofs.status_update.Reads as reads
-use Rattle.sirad.proofs.status_update.Lts as lts
-use Rattle.sirad.proofs.head_at.Reads as head-at-reads
-use Rattle.sirad.proofs.hexes.Reads as hexes-reads
-use Rattle.sirad.proofs.stop.Reads as stop-reads
 
--- src/lib.rt:348:9
 head-at-requires : tie.Need-head-at-requires
 head-at-requires c κs = search needs
 
--- src/lib.rt:349:29
 enum-known-a : tie.Need-enum-known-a
 enum-known-a c = search needs
 
--- src/lib.rt:350:9
 returns : tie.Need-returns
 returns c = halt _ _ _ _ (c .before .head-at .ensures) (c .match .keys2)
     ∙ sym (status-form _ _)
 
--- src/lib.rt:352:9
 hexes-requires : tie.Need-hexes-requires
 hexes-requires c κs = search needs
 
--- src/lib.rt:353:29
 enum-known-b : tie.Need-enum-known-b
 enum-known-b c = search needs
 
--- src/lib.rt:354:9
 returns-2 : tie.Need-returns-2
 returns-2 c = halt _ _ _ _ (c .before .hexes .ensures) (c .match2 .keys2)
     ∙ sym (go-on _ _ _ _ (c .before .before .before .before .before .head-at .ensures) (c .before .before .before .a .given .1))
     ∙ sym (status-form _ _)
 
--- src/lib.rt:356:5
 stop-requires : tie.Need-stop-requires
 stop-requires c κs = search needs
 
--- src/lib.rt:345:1
 returns-3 : tie.Need-returns-3
 returns-3 c = c .stop .ensures
     ∙ sym (go-on _ _ _ _ (c .before .before .before .before .hexes .ensures) (c .before .before .b .given .1))
