@@ -137,7 +137,7 @@ fn byte_of(s: &[u8], at: usize, c: Class) -> Judgement
     ensures { λ r. ⌜ r ≡ judgeAt (one (reason c) (accepts c)) at (now (s .entry)) ⌝ }
 {
     if s.len() <= at {
-        return Judgement::Waiting;
+        return Judgement::Waiting; // the byte may still come
     }
     let b = s[at];
     if is_of(c, b) {
