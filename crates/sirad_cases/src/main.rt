@@ -1,7 +1,6 @@
 // Judges SiRad frames whole, cut and damaged, and prints the answers: a line for each single case, and for each group of cases
 // the counts of whole, bad and waiting judgements with a checksum over all of them. A line has tabs between its fields.
 ghost use Prim.Native.Nat.{_≤_, _<_};
-ghost use lib.ListN.{length};
 use form::Judgement;
 
 const OUT: i32 = 1;
@@ -108,16 +107,14 @@ fn cut(s: &[u8], step: usize) -> Tally
     let mut t = none();
     let mut k: usize = 0;
     while k < s.len() {
-        t = counted(t, sirad::judge(&s[..k]));
+        t = counted(t, sirad::judge(&s[0..k]));
         k = next(k, step, s.len());
     }
     counted(t, sirad::judge(s))
 }
 
 // Every value of the byte at an offset; the byte is put back.
-fn damaged_at(s: &mut [u8], at: usize, before: Tally) -> Tally
-    ensures { λ r. ⌜ length (now (s .exit)) ≡ length (now (s .entry)) ⌝ }
-{
+fn damaged_at(s: &mut [u8], at: usize, before: Tally) -> Tally {
     let mut t = before;
     if s.len() <= at {
         return t;
