@@ -1,0 +1,5 @@
+pub mod Lawful
+pub mod Reading
+pub mod Leftmost
+pub mod Course
+pub mod Begins
