@@ -1,1 +1,5 @@
 pub mod Equations
+pub mod Prefix
+pub mod Rows
+pub mod LeftmostLaws
+pub mod CourseLaws
