@@ -1,4 +1,3 @@
-pub mod Lawful
 pub mod Reading
 pub mod Leftmost
 pub mod Course
