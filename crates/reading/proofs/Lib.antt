@@ -3,3 +3,4 @@ pub mod Prefix
 pub mod Rows
 pub mod LeftmostLaws
 pub mod CourseLaws
+pub mod Going

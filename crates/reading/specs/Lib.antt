@@ -1,4 +1,5 @@
 pub mod Reading
+pub mod Answers
 pub mod Leftmost
 pub mod Course
 pub mod Begins

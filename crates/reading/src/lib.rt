@@ -12,7 +12,9 @@ pub const ROW_WIDTH: usize = 3;
 
 // Why a reading stopped (paper 01, "Two readings"): the open one where it waits, either at a whole frame with no row left, the closed one at the end.
 pub const STATE_WAITING: u32 = 0;
+
 pub const STATE_FULL: u32 = 1;
+
 pub const STATE_END: u32 = 2;
 
 // What a reading answers: the refusal number (0: none), how many rows it wrote, the skipped bytes, the offset where it stopped, and why.
