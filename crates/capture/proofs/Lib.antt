@@ -1,0 +1,4 @@
+pub mod Laws
+pub mod Wires
+pub mod Turns
+pub mod LineLaws

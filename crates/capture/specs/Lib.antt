@@ -1,0 +1,4 @@
+pub mod Dialects
+pub mod Clear
+pub mod Entries
+pub mod Lines
