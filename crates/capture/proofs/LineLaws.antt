@@ -81,7 +81,8 @@ module _ (d : Dialect) (main standby : List ℕ) where
   unfolding partOf
   standby-long m h = rw (le-ltb maxBytes (length main) m, lt-ltb maxBytes (length standby) h)
 
-  both-short : length main ≤ maxBytes → length standby ≤ maxBytes → chosen (closedRows d main) (closedRows d standby) ≡ partOf (Known d) main standby
+  -- within the limit the choice is between the two closed readings
+  pub both-short : length main ≤ maxBytes → length standby ≤ maxBytes → chosen (closedRows d main) (closedRows d standby) ≡ partOf (Known d) main standby
   unfolding partOf
   both-short m s = rw (le-ltb maxBytes (length main) m, le-ltb maxBytes (length standby) s)
 

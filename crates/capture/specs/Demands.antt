@@ -1,0 +1,191 @@
+-- The front door: what is proved of captures, in the words of the demands and of paper 01. Each definition below the words is a proposition; its proof has the same name in small letters, in proofs/Demands.antt.
+-- The entries' promises are equations with `verdict`, `readAnswer`, `readLeaves` and `partOf`, so what is said of these is said of the entries' answers. Lists hold any numbers, so bytes among them; `Bytes` says that each is below 256 where a theorem needs it.
+use mathlib.Core.Bool.{Bool, true, false}
+use mathlib.Core.Path.{_≡_}
+use mathlib.Core.List.{List, [], _∷_, _++_, map}
+use mathlib.Core.Logic.{_↔_}
+use Prim.Native.Nat.{ℕ, _+_, _*_, _<_, _≤_}
+use lib.ListN.{length, drop}
+use Rattle.digits.specs.Bytes.{Bytes}
+use Rattle.form.specs.Form.{Frame, Stands, Completable, Inside}
+use Rattle.form.specs.declared.Judgement.the-variants.{Whole, Bad, Waiting}
+use Rattle.reading.specs.Answers.{answered, roomIn}
+use Rattle.reading.specs.Begins.{Begins}
+use Rattle.reading.specs.Course.{Halts, SkippedAt, Counted}
+use Rattle.reading.specs.Leftmost.{Standing, NoneStands, Leftmost}
+use Rattle.reading.specs.Reading.{Reading, reading, flat, rowWidth, lengths, stateFull, stateEnd}
+use Rattle.reading.specs.declared.Row.{Row}
+use Rattle.sirad.specs.Sirad.{sirad}
+use Rattle.sirad.specs.Table.{TableFrame}
+use Rattle.mmwave.specs.MmWave.{mmWave}
+use Rattle.mmwave.specs.Packet.{packet}
+use Rattle.mmwave.specs.Paper.{Packet}
+use Rattle.capture.specs.Dialects.{dialectOf, formOf, judgeOf}
+use Rattle.capture.specs.Edges.{Line, resultOf, edges}
+use Rattle.capture.specs.Entries.{maxBytes, verdict, numbersOf, readAnswer, readLeaves}
+use Rattle.capture.specs.Lines.{rowPart, emptyPart, partOf}
+use Rattle.capture.specs.declared.Asked.{Asked}
+use Rattle.capture.specs.declared.Asked.the-variants.{Known}
+use Rattle.capture.specs.declared.Dialect.{Dialect}
+use Rattle.capture.specs.declared.Dialect.the-variants.{Sirad, Mmwave}
+use Rattle.capture.specs.declared.Verdict.{Verdict}
+use Rattle.capture.specs.declared.Verdict.the-variants.{Judged}
+
+-- -- Words
+
+-- a frame of this kind and length "stands" at an offset (paper 01, "Judging a place")
+abbrev pub StandsIn : Dialect → List ℕ → Standing
+StandsIn d bs at kind size = Stands (formOf d) kind size (drop at bs)
+
+-- what the judgement says at an offset
+abbrev pub judgedAt : Dialect → List ℕ → ℕ → Verdict
+judgedAt d bs at = verdict (Known d) bs at
+
+-- the open reading, with room for so many rows
+abbrev pub openOf : Dialect → ℕ → List ℕ → Reading
+openOf d room bs = reading (judgeOf d) false room bs
+
+-- the closed reading, with room for so many rows
+abbrev pub closedOf : Dialect → ℕ → List ℕ → Reading
+closedOf d room bs = reading (judgeOf d) true room bs
+
+-- the bytes do not end inside a four-byte field, of which SiRad has none (demand 3, last sentence)
+abbrev pub EndsOutsideFields : Dialect → List ℕ → Type 0
+EndsOutsideFields Sirad bs = Unit {0}
+EndsOutsideFields Mmwave bs = Inside (packet mmWave) bs → ⊥
+
+-- -- Demand 1: bad input is answered with a number, and a refusal changes nothing
+
+-- the judgement refuses nothing but a dialect other than 0 and 1, more than 1,048,576 bytes, and an offset beyond the length
+abbrev pub JudgementRefusesOnly : Type 0
+JudgementRefusesOnly =
+    (number : ℕ) (bs : List ℕ) (at : ℕ) → (numbersOf (verdict (dialectOf number) bs at) .refusal ≡ 0) ↔ ((number < 2) × (length bs ≤ maxBytes) × (at ≤ length bs))
+
+-- a reading refuses nothing but a dialect other than 0 and 1 and more than 1,048,576 bytes
+abbrev pub ReadingRefusesOnly : Type 0
+ReadingRefusesOnly = (number : ℕ) (closed : Bool) (bs : List ℕ) (room : ℕ) → (readAnswer (dialectOf number) closed bs room .refusal ≡ 0) ↔ ((number < 2) × (length bs ≤ maxBytes))
+
+-- a refusal changes no number of the table
+abbrev pub RefusalChangesNothing : Type 0
+RefusalChangesNothing = (asked : Asked) (closed : Bool) (bs table : List ℕ) → (readAnswer asked closed bs (roomIn table) .refusal ≡ 0 → ⊥) → readLeaves asked closed bs table ≡ table
+
+-- -- Demand 2: it reads exactly what the documents define
+
+-- the SiRad frames are those of paper 01's table
+abbrev pub SiradFrames : Type 0
+SiradFrames = (kind : ℕ) (bs : List ℕ) → Frame sirad kind bs ↔ TableFrame kind bs
+
+-- the mmWave frames are the packets of paper 01's sentences
+abbrev pub MmwaveFrames : Type 0
+MmwaveFrames = (kind : ℕ) (bs : List ℕ) → Frame (packet mmWave) kind bs ↔ ((kind ≡ 16) × Packet bs)
+
+-- a place is judged whole exactly when a frame stands there, with that frame's kind and length
+abbrev pub WholeExactlyIfStands : Type 0
+WholeExactlyIfStands =
+    (d : Dialect) (bs : List ℕ) → length bs ≤ maxBytes → (at : ℕ) → at ≤ length bs → (kind size : ℕ) → (judgedAt d bs at ≡ Judged (Whole kind size)) ↔ StandsIn d bs at kind size
+
+-- at most one frame stands at a place
+abbrev pub OneStands : Type 0
+OneStands = (d : Dialect) (bs : List ℕ) (at k₁ n₁ k₂ n₂ : ℕ) → StandsIn d bs at k₁ n₁ → StandsIn d bs at k₂ n₂ → (k₁ ≡ k₂) × (n₁ ≡ n₂)
+
+-- every capture has one leftmost reading
+abbrev pub OneLeftmost : Type 0
+OneLeftmost = (d : Dialect) (bs : List ℕ) → (ws : List Row) × Leftmost (StandsIn d bs) 0 ws × ((vs : List Row) → Leftmost (StandsIn d bs) 0 vs → vs ≡ ws)
+
+-- with room in its table, the closed reading gives every frame that the leftmost reading holds, and comes to the end
+abbrev pub ClosedIsLeftmost : Type 0
+ClosedIsLeftmost =
+    (d : Dialect) (bs : List ℕ) (room : ℕ) (ws : List Row) → Leftmost (StandsIn d bs) 0 ws → length ws ≤ room → (closedOf d room bs .rows ≡ ws) × (closedOf d room bs .state ≡ stateEnd)
+
+-- with any room, the closed reading says "none", no row with state 2, exactly if no frame stands anywhere
+abbrev pub NoneExactlyIfNoneStands : Type 0
+NoneExactlyIfNoneStands = (d : Dialect) (bs : List ℕ) (room : ℕ) → ((closedOf d room bs .rows ≡ []) × (closedOf d room bs .state ≡ stateEnd)) ↔ NoneStands (StandsIn d bs)
+
+-- -- What an answer says (paper 01, "Two readings")
+
+-- the answer counts the reading's rows, and the table at exit is these rows with the numbers behind them as they were
+abbrev pub AnswersTheReading : Type 0
+AnswersTheReading =
+    (d : Dialect) (closed : Bool) (bs table : List ℕ) → length bs ≤ maxBytes
+    → (let r = reading (judgeOf d) closed (roomIn table) bs in
+    (readAnswer (Known d) closed bs (roomIn table) ≡ answered r) × (readLeaves (Known d) closed bs table ≡ flat (r .rows) ++ drop (rowWidth * length (r .rows)) table))
+
+-- no more rows than there is room for
+abbrev pub RowsFit : Type 0
+RowsFit = (d : Dialect) (closed : Bool) (bs : List ℕ) (room : ℕ) → length (reading (judgeOf d) closed room bs .rows) ≤ room
+
+-- row lengths plus skipped bytes equal the next place
+abbrev pub LengthsAndSkipsAreNext : Type 0
+LengthsAndSkipsAreNext = (d : Dialect) (closed : Bool) (bs : List ℕ) (room : ℕ) → (let r = reading (judgeOf d) closed room bs in lengths (r .rows) + r .skipped ≡ r .next)
+
+-- the skip count is the number of places that the reading comes to and judges bad and, in the closed reading, of those judged waiting before the end
+abbrev pub SkipsCounted : Type 0
+SkipsCounted = (d : Dialect) (closed : Bool) (bs : List ℕ) (room : ℕ) → Counted (SkippedAt (judgeOf d) closed bs 0 room) (reading (judgeOf d) closed room bs .skipped)
+
+-- each state exactly if the reading comes to a place at which it stops so; state 1 at a whole frame with no row left
+abbrev pub StateExactly : Type 0
+StateExactly = (d : Dialect) (closed : Bool) (bs : List ℕ) (room state : ℕ) → (reading (judgeOf d) closed room bs .state ≡ state) ↔ Halts (judgeOf d) closed bs room state
+
+-- the open rows are the first of the closed rows on the same bytes
+abbrev pub OpenRowsBeginClosedRows : Type 0
+OpenRowsBeginClosedRows = (d : Dialect) (bs : List ℕ) (room : ℕ) → Begins (openOf d room bs .rows) (closedOf d room bs .rows)
+
+-- on SiRad they are the same: behind a waiting place no frame starts
+abbrev pub SiradOpenIsClosed : Type 0
+SiradOpenIsClosed = (bs : List ℕ) (room : ℕ) → openOf Sirad room bs .rows ≡ closedOf Sirad room bs .rows
+
+-- -- Demand 3: more bytes never change an answer already given
+
+-- the open reading of A followed by B begins with exactly the rows of A
+abbrev pub OpenBegins : Type 0
+OpenBegins = (d : Dialect) (A B : List ℕ) → length (A ++ B) ≤ maxBytes → (room : ℕ) → Begins (openOf d room A .rows) (openOf d room (A ++ B) .rows)
+
+-- if A's reading ended with a full table (state 1), the two answers are equal throughout, and so are the tables
+abbrev pub FullIsFinal : Type 0
+FullIsFinal =
+    (d : Dialect) (A B : List ℕ) → length (A ++ B) ≤ maxBytes → (table : List ℕ) → readAnswer (Known d) false A (roomIn table) .state ≡ stateFull
+    → (readAnswer (Known d) false A (roomIn table) ≡ readAnswer (Known d) false (A ++ B) (roomIn table)) × (readLeaves (Known d) false A table ≡ readLeaves (Known d) false (A ++ B) table)
+
+-- each place that is judged whole or bad in A is judged alike in A followed by B, with the same kind and length or the same reason
+abbrev pub JudgedAlike : Type 0
+JudgedAlike =
+    (d : Dialect) (A B : List ℕ) → length (A ++ B) ≤ maxBytes → (at : ℕ) → at ≤ length A
+    → ((kind size : ℕ) → judgedAt d A at ≡ Judged (Whole kind size) → judgedAt d (A ++ B) at ≡ Judged (Whole kind size))
+    × ((reason : ℕ) → judgedAt d A at ≡ Judged (Bad reason) → judgedAt d (A ++ B) at ≡ Judged (Bad reason))
+
+-- at every place of A, the end included, the reader waits exactly when no frame stands there yet and some further bytes would complete one; for mmWave, at each place from which A doesn't end inside a four-byte field
+abbrev pub WaitsExactly : Type 0
+WaitsExactly =
+    (d : Dialect) (A : List ℕ) → Bytes A → length A ≤ maxBytes → (at : ℕ) → at ≤ length A → EndsOutsideFields d (drop at A) → (judgedAt d A at ≡ Judged Waiting) ↔ Completable (formOf d) (drop at A)
+
+-- where A ends inside a four-byte field the judgement is waiting
+abbrev pub InsideWaits : Type 0
+InsideWaits = (d : Dialect) (A : List ℕ) → length A ≤ maxBytes → (at : ℕ) → at ≤ length A → Inside (formOf d) (drop at A) → judgedAt d A at ≡ Judged Waiting
+
+-- the place at the very end is waiting
+abbrev pub EndWaits : Type 0
+EndWaits = (d : Dialect) (A : List ℕ) → length A ≤ maxBytes → judgedAt d A (length A) ≡ Judged Waiting
+
+-- -- Two lines (paper 01, "Two lines")
+
+-- the first frame of the main line's leftmost reading; where it has none, that of the standby line; else an empty part of the main line
+pub record ChoosesFirst (d : Dialect) (main standby : List ℕ) : Type 0 where
+  pub from-main : (w : Row) (ws : List Row) → Leftmost (StandsIn d main) 0 (w ∷ ws) → partOf (Known d) main standby ≡ rowPart false w
+  pub from-standby : (w : Row) (ws : List Row) → NoneStands (StandsIn d main) → Leftmost (StandsIn d standby) 0 (w ∷ ws) → partOf (Known d) main standby ≡ rowPart true w
+  pub from-neither : NoneStands (StandsIn d main) → NoneStands (StandsIn d standby) → partOf (Known d) main standby ≡ emptyPart
+
+-- that of two lines within the size limit
+abbrev pub TwoLines : Type 0
+TwoLines = (d : Dialect) (main standby : List ℕ) → length main ≤ maxBytes → length standby ≤ maxBytes → ChoosesFirst d main standby
+
+-- the part is empty for a dialect or a line, either one, that 1 or 3 refuses
+abbrev pub RefusedLineIsEmpty : Type 0
+RefusedLineIsEmpty =
+    (number : ℕ) (main standby : List ℕ) (closed : Bool) (room : ℕ)
+    → ((readAnswer (dialectOf number) closed main room .refusal ≡ 0) × (readAnswer (dialectOf number) closed standby room .refusal ≡ 0) → ⊥) → partOf (dialectOf number) main standby ≡ emptyPart
+
+-- -- Values at the edges (paper 01)
+
+-- every starred line of the table holds
+abbrev pub EdgesHold : Type 0
+EdgesHold = map (λ (l : Line). resultOf (l .question)) edges ≡ map (λ (l : Line). l .result) edges
