@@ -1,0 +1,4 @@
+pub mod ValueLaws
+pub mod FrameLaws
+pub mod PhaseLaws
+pub mod RoundTrips

@@ -1,0 +1,277 @@
+-- The round trips of each frame: corollaries of those of any row, with the numbers as fields.
+use mathlib.Core.Path.{_≡_, refl, sym, ap, _∙_}
+use mathlib.Core.Bool.{Bool, true, false, cond, _&&_}
+use mathlib.Core.List.{List, [], _∷_, _++_}
+use Prim.Native.Nat.{ℕ, zero, suc, _+_, _-_, _*_, _^_, _<_, _≤_}
+use native.Mathlib.Omega.{arith}
+use borrow.Author.Tests.{le-leb, lt-leb, ltb-true, leb-true, eqb-true, eqb-false, eq-eqb, ne-eqb, lt-ltb}
+use lib.Dec.{ltb, leb, eqb}
+use lib.ListN.{length, take, drop, getD, length-drop}
+use lib.Seq.{drop-drop, length-take-le}
+use Rattle.digits.specs.Bytes.{within, isCharacter}
+use Rattle.digits.specs.Hex.{hexValue, hexAt}
+use Rattle.digits.proofs.Choices.{test, and-left, and-right, both-ways}
+use Rattle.digits.proofs.HexLaws.{hex-at-below}
+use Rattle.units.specs.Units.{accuracyMillimetres}
+use Rattle.form.specs.declared.Judgement.the-variants.{Whole}
+use Rattle.form.specs.Form.{judge}
+use Rattle.sirad.specs.Sirad.{sirad}
+use Rattle.sirad.specs.Table.{identifier}
+use Rattle.sirad.specs.declared.Class.{Class}
+use Rattle.sirad.specs.Classes.{Passes}
+use Rattle.sirad.specs.Rows.{Piece, classes, blocks, characters, rPieces, tPieces, uPieces, ePieces, dataPieces}
+use Rattle.sirad_fields.specs.declared.DataFrame.{DataFrame}
+use Rattle.sirad_fields.specs.declared.Target.{Target}
+use Rattle.sirad_fields.specs.declared.TargetFrame.{TargetFrame}
+use Rattle.sirad_fields.specs.declared.StatusFrame.{StatusFrame}
+use Rattle.sirad_fields.specs.declared.ErrorFrame.{ErrorFrame}
+use Rattle.sirad_fields.specs.Values.{values, written, fit, blank}
+use Rattle.sirad_fields.specs.Frames.{frameKind, rowOf, rowIn, numbersIn, frameOf, blankFrame, ReadsBack, WritesBack}
+use Rattle.sirad_fields.specs.Fields.{isData, dataStart, readData, partOf, dataNumbers, dataRefusal, dataBytes, Phases, targetsOf, blockNumbers, targetFields, readTargets, targetNumbers, unencoded, targetsRefusal, targetsBytes, statusFields, readStatus, statusNumbers, sentNumbers, statusRefusal, statusBytes, readError, errorRefusal, errorBytes}
+use Rattle.sirad_fields.proofs.FrameLaws.{FrameOf, frame-kind, kind-frame, numbers-back, size-back, written-judged, written-kind, written-again, numbers-fit}
+use Rattle.sirad_fields.proofs.PhaseLaws.{numbers-targets, targets-numbers}
+
+-- values that are not refused fit
+pub not-refused : (fits : Bool) → unencoded fits ≡ 0 → fits ≡ true
+not-refused true h = refl
+not-refused false h = absurd (omega arith)
+
+-- a frame without a size field, whatever its numbers
+module _ (k : ℕ) (vs : List ℕ) (big : 3 < k) (most : k ≤ 6) (fits : fit (rowOf k 0) vs ≡ true) where
+  unsized-judged : judge sirad 0 (frameOf k 0 vs) ≡ Whole k (length (frameOf k 0 vs))
+  unsized-judged = written-judged k 0 vs (omega arith) most (λ l. absurd (omega arith)) fits
+
+  unsized-kind : frameKind (frameOf k 0 vs) ≡ k
+  unsized-kind = written-kind k 0 vs (omega arith) most (λ l. absurd (omega arith)) fits
+
+  unsized-numbers : values (rowOf k 0) (written (rowOf k 0) vs) ≡ vs
+  unsized-numbers = numbers-back k 0 vs (omega arith) most (λ l. absurd (omega arith)) fits
+
+-- a reader that does not refuse has found its kind
+found : {A : Type 0} (refusal : A → ℕ) (t : Bool) (fields refused : A) → refusal refused ≡ 5 → refusal (cond t fields refused) ≡ 0 → t ≡ true
+found refusal true fields refused e h = refl
+found refusal false fields refused e h = absurd (omega arith)
+
+-- -- Error flags
+
+-- flags that are written are read back
+pub error-written-reads-back : (flags : ℕ) → errorRefusal flags ≡ 0 → ReadsBack 6 (errorBytes flags) readError (record { refusal = 0; flags = flags })
+unfolding readError
+error-written-reads-back flags h =
+    let f = not-refused (fit ePieces (flags ∷ [])) h in
+    let most : 6 ≤ 6 = omega arith in
+    let big : 3 < 6 = omega arith in
+    record {
+      judged = unsized-judged 6 (flags ∷ []) big most f;
+      reads = rw (unsized-kind 6 (flags ∷ []) big most f, unsized-numbers 6 (flags ∷ []) big most f);
+    }
+
+error-kind : (bs : List ℕ) → readError bs .refusal ≡ 0 → frameKind bs ≡ 6
+unfolding readError
+error-kind bs h = eqb-true (frameKind bs) 6 (found (λ (r : ErrorFrame). r .refusal) (eqb (frameKind bs) 6) _ _ refl h)
+
+-- flags that are read and written again are the same frame
+pub error-read-writes-back : (bs : List ℕ) → readError bs .refusal ≡ 0 → WritesBack 6 (errorRefusal (readError bs .flags)) (errorBytes (readError bs .flags)) bs
+unfolding readError values
+error-read-writes-back bs h =
+    let k = error-kind bs h in
+    let f = kind-frame 6 bs (omega arith) k in
+    record { fits = rw (k, numbers-fit 6 bs f); same = rw k (written-again 6 bs f) }
+
+-- -- Status
+
+-- a status that is written is read back, with its accuracy in millimetres too
+pub status-written-reads-back : (format gain accuracy range ramp bandwidth time : ℕ) → statusRefusal (statusNumbers format gain accuracy range ramp bandwidth time) ≡ 0
+    → ReadsBack 5 (statusBytes (statusNumbers format gain accuracy range ramp bandwidth time)) readStatus (statusFields (statusNumbers format gain accuracy range ramp bandwidth time))
+unfolding readStatus
+status-written-reads-back format gain accuracy range ramp bandwidth time h =
+    let vs = statusNumbers format gain accuracy range ramp bandwidth time in
+    let f = not-refused (fit uPieces vs) h in
+    let most : 5 ≤ 6 = omega arith in
+    let big : 3 < 5 = omega arith in
+    record { judged = unsized-judged 5 vs big most f; reads = rw (unsized-kind 5 vs big most f, unsized-numbers 5 vs big most f) }
+
+status-kind : (bs : List ℕ) → readStatus bs .refusal ≡ 0 → frameKind bs ≡ 5
+unfolding readStatus
+status-kind bs h = eqb-true (frameKind bs) 5 (found (λ (r : StatusFrame). r .refusal) (eqb (frameKind bs) 5) _ _ refl h)
+
+-- a status that is read and written again is the same frame
+pub status-read-writes-back : (bs : List ℕ) → readStatus bs .refusal ≡ 0 → WritesBack 5 (statusRefusal (sentNumbers (readStatus bs))) (statusBytes (sentNumbers (readStatus bs))) bs
+unfolding readStatus values
+status-read-writes-back bs h =
+    let k = status-kind bs h in
+    let f = kind-frame 5 bs (omega arith) k in
+    record { fits = rw (k, numbers-fit 5 bs f); same = rw k (written-again 5 bs f) }
+
+-- -- Targets
+
+-- targets that are written are read back
+pub targets-written-read-back : (format gain : ℕ) (ts : List Target) → Phases ts → targetsRefusal format gain ts ≡ 0
+    → ReadsBack 4 (targetsBytes format gain ts) readTargets (record { refusal = 0; format = format; gain = gain; targets = ts })
+unfolding readTargets targetNumbers fit
+targets-written-read-back format gain ts p h =
+    let vs = targetNumbers format gain ts in
+    let f = not-refused (fit tPieces vs) h in
+    let r : fit (blocks 16) (blockNumbers ts) ≡ true = and-right (isCharacter gain) (fit (blocks 16) (blockNumbers ts)) (and-right (ltb format 16) (isCharacter gain && fit (blocks 16) (blockNumbers ts)) f) in
+    let most : 4 ≤ 6 = omega arith in
+    let big : 3 < 4 = omega arith in
+    record { judged = unsized-judged 4 vs big most f; reads = rw (unsized-kind 4 vs big most f, unsized-numbers 4 vs big most f, targets-numbers 16 ts p r) }
+
+targets-kind : (bs : List ℕ) → readTargets bs .refusal ≡ 0 → frameKind bs ≡ 4
+unfolding readTargets
+targets-kind bs h = eqb-true (frameKind bs) 4 (found (λ (r : TargetFrame). r .refusal) (eqb (frameKind bs) 4) _ _ refl h)
+
+-- the numbers of what a reader gives are those of the frame
+target-numbers : (bs : List ℕ) → frameKind bs ≡ 4 → fit tPieces (values tPieces (drop 2 bs)) ≡ true
+    → targetNumbers (readTargets bs .format) (readTargets bs .gain) (readTargets bs .targets) ≡ values tPieces (drop 2 bs)
+unfolding readTargets targetNumbers values fit
+target-numbers bs k h =
+    let format = hexValue (take 1 (drop 2 bs)) in
+    let gain = getD (drop 1 (drop 2 bs)) 0 0 in
+    let vs = values (blocks 16) (drop 1 (drop 1 (drop 2 bs))) in
+    let r = and-right (isCharacter gain) (fit (blocks 16) vs) (and-right (ltb format 16) (isCharacter gain && fit (blocks 16) vs) h) in
+    rw (k, numbers-targets 16 vs r)
+
+-- targets that are read and written again are the same frame but for reserved bytes
+pub targets-read-write-back : (bs : List ℕ) → readTargets bs .refusal ≡ 0
+    → WritesBack 4 (targetsRefusal (readTargets bs .format) (readTargets bs .gain) (readTargets bs .targets)) (targetsBytes (readTargets bs .format) (readTargets bs .gain) (readTargets bs .targets)) bs
+targets-read-write-back bs h =
+    let k = targets-kind bs h in
+    let f = kind-frame 4 bs (omega arith) k in
+    let e = target-numbers bs k (numbers-fit 4 bs f) in
+    record { fits = rw (e, numbers-fit 4 bs f); same = rw e (written-again 4 bs f) }
+
+-- -- Data frames
+
+-- the kinds 1 to 3
+data-range : (k : ℕ) → isData k ≡ true → (1 ≤ k) × (k ≤ 3)
+data-range k h = (leb-true 1 k (and-left (leb 1 k) (leb k 3) h), leb-true k 3 (and-right (leb 1 k) (leb k 3) h))
+
+-- the numbers of n characters are the characters
+character-values : (n : ℕ) (xs : List ℕ) → n ≤ length xs → values (characters n) xs ≡ take n xs
+unfolding values characters
+character-values zero xs h = refl
+character-values (suc n) [] h = absurd (omega arith)
+character-values (suc n) (x ∷ xs) h = ap (λ (l : List ℕ). x ∷ l) (character-values n xs (omega arith))
+
+-- n characters and the end are n + 2 bytes
+length-characters : (n : ℕ) → length (classes (characters n)) ≡ n + 2
+unfolding classes characters
+length-characters zero = refl
+length-characters (suc n) = rw (length-characters n) (omega arith)
+
+-- bytes that pass are as many as the classes
+passes-length : (cs : List Class) (bs : List ℕ) → Passes cs bs → length bs ≡ length cs
+unfolding Passes
+passes-length [] [] h = refl
+passes-length [] (b ∷ bs) h = absurd h
+passes-length (c ∷ cs) [] h = absurd h
+passes-length (c ∷ cs) (b ∷ bs) h = ap suc (passes-length cs bs (h .1))
+
+-- what a data frame is: 16 + n bytes, and its characters are n bytes from its start on
+pub record DataOf (k n : ℕ) (bs : List ℕ) : Type 0 where
+  pub total : length bs ≡ 16 + n
+  pub count : length (take n (drop dataStart bs)) ≡ n
+  pub numbers : values (rPieces n) (drop 2 bs) ≡ dataNumbers (take n (drop dataStart bs))
+
+twelve-on : (xs : List ℕ) → drop 1 (drop 1 (drop 1 (drop 1 (drop 1 (drop 1 (drop 1 (drop 1 (drop 4 (drop 2 xs))))))))) ≡ drop dataStart xs
+twelve-on xs = simp drop-drop
+
+data-of : (k : ℕ) (bs : List ℕ) → k ≤ 3 → FrameOf k bs → DataOf k (hexAt 4 2 bs) bs
+unfolding classes values
+data-of k bs l f =
+    let n = hexAt 4 2 bs in
+    let p : Passes (classes (rPieces n)) (drop 2 bs) = rw (le-leb k 3 l) at (f .passed) in
+    let body : length (drop 2 bs) ≡ length (classes (rPieces n)) = passes-length (classes (rPieces n)) (drop 2 bs) p in
+    let total : length bs ≡ 16 + n = omega (arith, ap length (f .starts), body, length-characters n) in
+    let long : n ≤ length (drop dataStart bs) = simp length-drop (omega arith) in
+    let count : length (take n (drop dataStart bs)) ≡ n = length-take-le n (drop dataStart bs) long in
+    record { total = total; count = count; numbers = rw (twelve-on bs, character-values n (drop dataStart bs) long, count) }
+
+-- what data that is not refused is
+pub record DataFits (k : ℕ) (cs : List ℕ) : Type 0 where
+  pub kinds : isData k ≡ true
+  pub count : length cs ≤ 65535
+  pub fits : fit (rPieces (length cs)) (dataNumbers cs) ≡ true
+
+data-fits : (k : ℕ) (cs : List ℕ) → dataRefusal k cs ≡ 0 → DataFits k cs
+unfolding dataRefusal
+data-fits k cs h = go (isData k) (leb (length cs) 65535) (fit (rPieces (length cs)) (dataNumbers cs)) refl refl refl h
+  where
+    go : (a b c : Bool) → isData k ≡ a → leb (length cs) 65535 ≡ b → fit (rPieces (length cs)) (dataNumbers cs) ≡ c → _≡_ {A = ℕ} (cond a (cond b (cond c 0 50) 52) 53) 0 → DataFits k cs
+    go true true true x y z e = record { kinds = x; count = leb-true (length cs) 65535 y; fits = z }
+    go true true false x y z e = absurd (omega arith)
+    go true false c x y z e = absurd (omega arith)
+    go false b c x y z e = absurd (omega arith)
+
+-- a data frame as a frame of its kind's row
+module _ (k : ℕ) (cs : List ℕ) (d : DataFits k cs) where
+  low : 1 ≤ k
+  low = data-range k (d .kinds) .0
+
+  high : k ≤ 3
+  high = data-range k (d .kinds) .1
+
+  row-fits : fit (rowOf k (length cs)) (dataNumbers cs) ≡ true
+  row-fits = rw (le-leb k 3 high) (d .fits)
+
+  data-judged : judge sirad 0 (dataBytes k cs) ≡ Whole k (length (dataBytes k cs))
+  unfolding dataBytes
+  data-judged = rw (le-leb k 3 high) at (written-judged k (length cs) (dataNumbers cs) low (omega (arith, high)) (λ l. refl) row-fits)
+
+  data-kind : frameKind (dataBytes k cs) ≡ k
+  data-kind = frame-kind k (dataBytes k cs) data-judged
+
+  data-size : hexAt 4 2 (dataBytes k cs) ≡ length cs
+  unfolding dataBytes
+  data-size = rw (le-leb k 3 high) at (size-back k (length cs) (dataNumbers cs) low (omega (arith, high)) (λ l. refl) row-fits high)
+
+  data-numbers : values (rPieces (length cs)) (drop 2 (dataBytes k cs)) ≡ dataNumbers cs
+  unfolding dataBytes
+  data-numbers = rw (le-leb k 3 high) at (numbers-back k (length cs) (dataNumbers cs) low (omega (arith, high)) (λ l. refl) row-fits)
+
+  data-part : take (length cs) (drop dataStart (dataBytes k cs)) ≡ cs
+  data-part =
+      let g = data-of k (dataBytes k cs) high (kind-frame k (dataBytes k cs) (omega (arith, low)) data-kind) in
+      let e : values (rPieces (length cs)) (drop 2 (dataBytes k cs)) ≡ dataNumbers (take (length cs) (drop dataStart (dataBytes k cs))) = rw data-size at (g .numbers) in
+      ap (drop 1) (sym e ∙ data-numbers)
+
+-- data that is written is read back: its kind, and its characters as a part of the frame
+pub data-written-reads-back : (k : ℕ) (cs : List ℕ) → dataRefusal k cs ≡ 0
+    → ReadsBack k (dataBytes k cs) readData (record { refusal = 0; kind = k; start = dataStart; size = length cs }) × (take (length cs) (drop dataStart (dataBytes k cs)) ≡ cs)
+unfolding readData
+data-written-reads-back k cs h =
+    let d = data-fits k cs h in
+    (record { judged = data-judged k cs d; reads = rw (data-kind k cs d, d .kinds, data-size k cs d) }, data-part k cs d)
+
+-- what a reader that does not refuse has found
+data-found : (bs : List ℕ) → readData bs .refusal ≡ 0 → isData (frameKind bs) ≡ true
+unfolding readData
+data-found bs h = found (λ (r : DataFrame). r .refusal) (isData (frameKind bs)) _ _ refl h
+
+data-read : (bs : List ℕ) → isData (frameKind bs) ≡ true → readData bs ≡ record { refusal = 0; kind = frameKind bs; start = dataStart; size = hexAt 4 2 bs }
+unfolding readData
+data-read bs h = rw h
+
+data-again : (k : ℕ) (bs cs : List ℕ) → isData k ≡ true → FrameOf k bs → length cs ≡ hexAt 4 2 bs → values (rPieces (hexAt 4 2 bs)) (drop 2 bs) ≡ dataNumbers cs
+    → WritesBack k (dataRefusal k cs) (dataBytes k cs) bs
+unfolding dataRefusal dataBytes
+data-again k bs cs h f c v =
+    let high = data-range k h .1 in
+    let few : length cs ≤ 65535 = omega (arith, hex-at-below 4 2 bs) in
+    let fits₀ : fit (rPieces (hexAt 4 2 bs)) (values (rPieces (hexAt 4 2 bs)) (drop 2 bs)) ≡ true = rw (le-leb k 3 high) at (numbers-fit k bs f) in
+    let fits₁ : fit (rPieces (length cs)) (dataNumbers cs) ≡ true = rw (← v, c) fits₀ in
+    let bytes : 33 ∷ identifier k ∷ written (rPieces (length cs)) (dataNumbers cs) ≡ frameOf k (hexAt 4 2 bs) (numbersIn k bs) = rw (← v, c, le-leb k 3 high) in
+    record { fits = rw (h, le-leb (length cs) 65535 few, fits₁); same = bytes ∙ written-again k bs f }
+
+-- data that is read and written again is the same frame but for reserved bytes
+pub data-read-writes-back : (bs : List ℕ) → readData bs .refusal ≡ 0
+    → WritesBack (readData bs .kind) (dataRefusal (readData bs .kind) (partOf (readData bs) bs)) (dataBytes (readData bs .kind) (partOf (readData bs) bs)) bs
+data-read-writes-back bs h = rw (data-read bs (data-found bs h)) (go (data-range (frameKind bs) (data-found bs h)))
+  where
+    go : (1 ≤ frameKind bs) × (frameKind bs ≤ 3) → WritesBack (frameKind bs) (dataRefusal (frameKind bs) (take (hexAt 4 2 bs) (drop dataStart bs))) (dataBytes (frameKind bs) (take (hexAt 4 2 bs) (drop dataStart bs))) bs
+    go (low, high) =
+        let k = frameKind bs in
+        let f = kind-frame k bs (omega arith) refl in
+        let g = data-of k bs high f in
+        data-again k bs (take (hexAt 4 2 bs) (drop dataStart bs)) (data-found bs h) f (g .count) (g .numbers)
