@@ -17,11 +17,12 @@ use Rattle.form.proofs.Theorems.{judged-frame, frame-whole}
 use Rattle.sirad.specs.declared.Class.{Class}
 use Rattle.sirad.specs.declared.Class.the-variants.{Hex, Char, Cr, Lf}
 use Rattle.sirad.specs.Classes.{accepts, Passes}
-use Rattle.sirad.specs.Rows.{Piece, hex, char, spare, cr, lf, classes, rPieces, tPieces, uPieces, ePieces, dataPieces}
+use Rattle.sirad.specs.Rows.{characters, Piece, hex, char, spare, cr, lf, classes, rPieces, tPieces, uPieces, ePieces, dataPieces}
 use Rattle.sirad.specs.Sirad.{sirad, lay, row, number, sized, kindOf, known, body}
 use Rattle.sirad.specs.Table.{identifier}
 use Rattle.sirad_fields.specs.Values.{values, written, fit, blank}
 use Rattle.sirad_fields.specs.Frames.{kindOver, frameKind, rowOf, rowIn, numbersIn, frameOf, blankFrame, ReadsBack, WritesBack}
+use Rattle.sirad_fields.specs.Fields.{isData}
 use Rattle.sirad_fields.proofs.ValueLaws.{hex-passes, passes-hex, Digits, back, passes, again, fits-again, length-written}
 
 -- -- Rows and hex numbers as parts of the grammar
@@ -59,6 +60,26 @@ number-frame : (xs : List ℕ) (v k : ℕ) (next : ℕ → Form) (ys : List ℕ)
 unfolding number _>>=_ Frame AllHex hexFrom
 number-frame [] v k next ys h f = f
 number-frame (x ∷ xs) v k next ys h f = (h .0, number-frame xs (v * 16 + digit x) k next ys (h .1) f)
+
+-- -- Lengths
+
+-- bytes that pass are as many as the classes
+pub passes-length : (cs : List Class) (bs : List ℕ) → Passes cs bs → length bs ≡ length cs
+unfolding Passes
+passes-length [] [] h = refl
+passes-length [] (b ∷ bs) h = absurd h
+passes-length (c ∷ cs) [] h = absurd h
+passes-length (c ∷ cs) (b ∷ bs) h = ap suc (passes-length cs bs (h .1))
+
+-- n characters and the end are n + 2 bytes
+pub length-characters : (n : ℕ) → length (classes (characters n)) ≡ n + 2
+unfolding classes characters
+length-characters zero = refl
+length-characters (suc n) = rw (length-characters n) (omega arith)
+
+-- the kinds 1 to 3
+pub data-range : (k : ℕ) → isData k ≡ true → (1 ≤ k) × (k ≤ 3)
+data-range k h = (leb-true 1 k (and-left (leb 1 k) (leb k 3) h), leb-true k 3 (and-right (leb 1 k) (leb k 3) h))
 
 -- -- A frame, by its kind
 

@@ -28,7 +28,7 @@ use Rattle.sirad_fields.specs.declared.ErrorFrame.{ErrorFrame}
 use Rattle.sirad_fields.specs.Values.{values, written, fit, blank}
 use Rattle.sirad_fields.specs.Frames.{frameKind, rowOf, rowIn, numbersIn, frameOf, blankFrame, ReadsBack, WritesBack}
 use Rattle.sirad_fields.specs.Fields.{isData, dataStart, readData, partOf, dataNumbers, dataRefusal, dataBytes, Phases, targetsOf, blockNumbers, targetFields, readTargets, targetNumbers, unencoded, targetsRefusal, targetsBytes, statusFields, readStatus, statusNumbers, sentNumbers, statusRefusal, statusBytes, readError, errorRefusal, errorBytes}
-use Rattle.sirad_fields.proofs.FrameLaws.{FrameOf, frame-kind, kind-frame, numbers-back, size-back, written-judged, written-kind, written-again, numbers-fit}
+use Rattle.sirad_fields.proofs.FrameLaws.{data-range, passes-length, length-characters, FrameOf, frame-kind, kind-frame, numbers-back, size-back, written-judged, written-kind, written-again, numbers-fit}
 use Rattle.sirad_fields.proofs.PhaseLaws.{numbers-targets, targets-numbers}
 
 -- values that are not refused fit
@@ -143,30 +143,12 @@ targets-read-write-back bs h =
 
 -- -- Data frames
 
--- the kinds 1 to 3
-data-range : (k : ℕ) → isData k ≡ true → (1 ≤ k) × (k ≤ 3)
-data-range k h = (leb-true 1 k (and-left (leb 1 k) (leb k 3) h), leb-true k 3 (and-right (leb 1 k) (leb k 3) h))
-
 -- the numbers of n characters are the characters
 character-values : (n : ℕ) (xs : List ℕ) → n ≤ length xs → values (characters n) xs ≡ take n xs
 unfolding values characters
 character-values zero xs h = refl
 character-values (suc n) [] h = absurd (omega arith)
 character-values (suc n) (x ∷ xs) h = ap (λ (l : List ℕ). x ∷ l) (character-values n xs (omega arith))
-
--- n characters and the end are n + 2 bytes
-length-characters : (n : ℕ) → length (classes (characters n)) ≡ n + 2
-unfolding classes characters
-length-characters zero = refl
-length-characters (suc n) = rw (length-characters n) (omega arith)
-
--- bytes that pass are as many as the classes
-passes-length : (cs : List Class) (bs : List ℕ) → Passes cs bs → length bs ≡ length cs
-unfolding Passes
-passes-length [] [] h = refl
-passes-length [] (b ∷ bs) h = absurd h
-passes-length (c ∷ cs) [] h = absurd h
-passes-length (c ∷ cs) (b ∷ bs) h = ap suc (passes-length cs bs (h .1))
 
 -- what a data frame is: 16 + n bytes, and its characters are n bytes from its start on
 pub record DataOf (k n : ℕ) (bs : List ℕ) : Type 0 where
@@ -177,7 +159,8 @@ pub record DataOf (k n : ℕ) (bs : List ℕ) : Type 0 where
 twelve-on : (xs : List ℕ) → drop 1 (drop 1 (drop 1 (drop 1 (drop 1 (drop 1 (drop 1 (drop 1 (drop 4 (drop 2 xs))))))))) ≡ drop dataStart xs
 twelve-on xs = simp drop-drop
 
-data-of : (k : ℕ) (bs : List ℕ) → k ≤ 3 → FrameOf k bs → DataOf k (hexAt 4 2 bs) bs
+-- a frame of kinds 1 to 3 is one
+pub data-of : (k : ℕ) (bs : List ℕ) → k ≤ 3 → FrameOf k bs → DataOf k (hexAt 4 2 bs) bs
 unfolding classes values
 data-of k bs l f =
     let n = hexAt 4 2 bs in

@@ -1,0 +1,15 @@
+use borrow.Author.Tests.{le-leb, lt-leb}
+use borrow.Author.Needs.{needs}
+use Rattle.sirad_fields.proofs.between.Statement.{statement}
+use Rattle.sirad_fields.proofs.between.Tie as tie
+use Rattle.sirad_fields.proofs.between.Reads as reads
+use Rattle.sirad_fields.proofs.between.Lts as lts
+
+returns : tie.Need-returns
+returns c = search (needs, le-leb, lt-leb)
+
+returns-2 : tie.Need-returns-2
+returns-2 c = search (needs, le-leb, lt-leb)
+
+pub between-spec : {M : Type 1} → statement M
+between-spec = tie.close (tie.spec returns returns-2)

@@ -1,0 +1,22 @@
+use native.Mathlib.Omega.{arith}
+use Rattle.sirad_fields.proofs.NumberLaws.{glyph-figure, glyph-letter}
+use borrow.Author.Needs.{needs}
+use Rattle.sirad_fields.proofs.glyph_of.Statement.{statement}
+use Rattle.sirad_fields.proofs.glyph_of.Tie as tie
+use Rattle.sirad_fields.proofs.glyph_of.Reads as reads
+use Rattle.sirad_fields.proofs.glyph_of.Lts as lts
+
+add-result : tie.Need-add-result
+add-result c = search needs
+
+returns : tie.Need-returns
+returns c = glyph-figure _ (c .if1 .taken)
+
+add-result-2 : tie.Need-add-result-2
+add-result-2 c = search needs
+
+returns-2 : tie.Need-returns-2
+returns-2 c = glyph-letter _ (omega arith)
+
+pub glyph-of-spec : {M : Type 1} → statement M
+glyph-of-spec = tie.close (tie.spec add-result returns add-result-2 returns-2)

@@ -1,0 +1,67 @@
+use mathlib.Core.Path.{_≡_, sym, _∙_}
+use Prim.Native.Nat.{_+_, _-_, _^_, _<_, _≤_}
+use native.Mathlib.Omega.{arith}
+use borrow.Author.Needs.{needs}
+use lib.Dec.{lit<}
+use lib.ListN.{length, take, drop, getD}
+use Rattle.digits.specs.Hex.{hexFrom, hexAt}
+use Rattle.digits.proofs.HexLaws.{digit-small}
+use Rattle.sirad_fields.proofs.NumberLaws.{hex-room, hex-grows, hex-start, hex-next, hex-end}
+use Rattle.sirad_fields.proofs.hex_at.Statement.{statement}
+use Rattle.sirad_fields.proofs.hex_at.Tie as tie
+use Rattle.sirad_fields.proofs.hex_at.Reads as reads
+use Rattle.sirad_fields.proofs.hex_at.Lts as lts
+use Rattle.sirad_fields.proofs.digit_of.Reads as digit-of-reads
+
+abbrev Inv-loop : tie.InvT-loop
+Inv-loop s at n v₀ i₀ v i = (i ≤ n) × (v < 16 ^ i) × (hexFrom v (take (n - i) (drop (at + i) s)) ≡ hexAt n at s)
+
+abbrev μ-loop : tie.MeasureT-loop
+μ-loop s at n v₀ i₀ v i = n - i
+
+loop-holds : tie.Need-loop-holds Inv-loop μ-loop
+loop-holds c = let a = c .before .args in (omega arith, lit< tt, hex-start (a .n) (a .at) (a .s .now))
+
+add-digit-of : tie.Need-add-digit-of Inv-loop μ-loop
+add-digit-of c = omega arith
+
+shared-slice-read-digit-of : tie.Need-shared-slice-read-digit-of Inv-loop μ-loop
+shared-slice-read-digit-of c = omega arith
+
+digit-of-requires : tie.Need-digit-of-requires Inv-loop μ-loop
+digit-of-requires c κs = search needs
+
+mul-v : tie.Need-mul-v Inv-loop μ-loop
+mul-v c = let l = c .before .before .before .loop in let a = c .before .before .before .before .before .args in omega (arith, hex-room (l .i) (a .n) (l .v) (c .before .before .loop-test .taken) (c .before .before .before .before .before .pre .0) (l .inv .1))
+
+add-v : tie.Need-add-v Inv-loop μ-loop
+add-v c = let l = c .before .before .before .loop in let a = c .before .before .before .before .before .args in omega (arith, hex-room (l .i) (a .n) (l .v) (c .before .before .loop-test .taken) (c .before .before .before .before .before .pre .0) (l .inv .1), digit-small (getD (a .s .now) (a .at + l .i) 0), c .digit-of .ensures)
+
+add-i : tie.Need-add-i Inv-loop μ-loop
+add-i c = omega arith
+
+loop-less : tie.Need-loop-less Inv-loop μ-loop
+loop-less c = omega arith
+
+loop-again : tie.Need-loop-again Inv-loop μ-loop
+loop-again c = let l = c .before .before .before .loop in let a = c .before .before .before .before .before .args in (omega arith, hex-grows (l .i) (l .v) (c .digit-of .result) (l .inv .1) (omega (arith, digit-small (getD (a .s .now) (a .at + l .i) 0), c .digit-of .ensures)), sym (hex-next (a .n) (a .at) (l .i) (l .v) (c .digit-of .result) (a .s .now) (c .before .before .loop-test .taken) (c .before .before .before .before .before .pre .1) (c .digit-of .ensures)) ∙ l .inv .2)
+
+returns : tie.Need-returns Inv-loop μ-loop
+returns c = let l = c .before .loop in let a = c .before .before .before .args in sym (hex-end (a .n) (a .at) (l .i) (l .v) (a .s .now) (c .loop-test .left)) ∙ l .inv .2
+
+pub hex-at-spec : {M : Type 1} → statement M
+hex-at-spec =
+    tie.close
+    (tie.spec
+    Inv-loop
+    μ-loop
+    loop-holds
+    add-digit-of
+    shared-slice-read-digit-of
+    digit-of-requires
+    mul-v
+    add-v
+    add-i
+    loop-less
+    loop-again
+    returns)

@@ -1,0 +1,16 @@
+use mathlib.Core.Path.{refl}
+use borrow.Author.Needs.{needs}
+use Rattle.sirad_fields.proofs.no_targets.Statement.{statement}
+use Rattle.sirad_fields.proofs.no_targets.Tie as tie
+use Rattle.sirad_fields.proofs.no_targets.Reads as reads
+use Rattle.sirad_fields.proofs.no_targets.Lts as lts
+use Rattle.sirad_fields.proofs.zero_target.Reads as zero-target-reads
+
+zero-target-requires : tie.Need-zero-target-requires
+zero-target-requires c κs = search needs
+
+returns : tie.Need-returns
+returns c = rw (c .zero-target .ensures)
+
+pub no-targets-spec : {M : Type 1} → statement M
+no-targets-spec = tie.close (tie.spec zero-target-requires returns)
