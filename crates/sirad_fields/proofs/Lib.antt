@@ -5,3 +5,5 @@ pub mod RoundTrips
 pub mod NumberLaws
 pub mod StoringLaws
 pub mod ReadingLaws
+pub mod WritingLaws
+pub mod FrameStores

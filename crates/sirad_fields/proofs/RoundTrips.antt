@@ -177,7 +177,8 @@ pub record DataFits (k : ℕ) (cs : List ℕ) : Type 0 where
   pub count : length cs ≤ 65535
   pub fits : fit (rPieces (length cs)) (dataNumbers cs) ≡ true
 
-data-fits : (k : ℕ) (cs : List ℕ) → dataRefusal k cs ≡ 0 → DataFits k cs
+-- and what follows from it
+pub data-fits : (k : ℕ) (cs : List ℕ) → dataRefusal k cs ≡ 0 → DataFits k cs
 unfolding dataRefusal
 data-fits k cs h = go (isData k) (leb (length cs) 65535) (fit (rPieces (length cs)) (dataNumbers cs)) refl refl refl h
   where

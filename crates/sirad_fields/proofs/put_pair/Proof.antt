@@ -1,0 +1,27 @@
+use mathlib.Core.Path.{_≡_, refl, sym, ap, _∙_}
+use native.Mathlib.Omega.{arith}
+use lib.ListN.{length-set}
+use Rattle.sirad_fields.proofs.FrameStores.{pair-stored}
+use borrow.Author.Needs.{needs}
+use Rattle.sirad_fields.proofs.put_pair.Statement.{statement}
+use Rattle.sirad_fields.proofs.put_pair.Tie as tie
+use Rattle.sirad_fields.proofs.put_pair.Reads as reads
+use Rattle.sirad_fields.proofs.put_pair.Lts as lts
+
+slice-write-out : tie.Need-slice-write-out
+slice-write-out c = search needs
+
+add-out : tie.Need-add-out
+add-out c = search needs
+
+slice-write-out-2 : tie.Need-slice-write-out-2
+slice-write-out-2 c = simp length-set (omega arith)
+
+same-length : tie.Need-same-length
+same-length c = search needs
+
+returns : tie.Need-returns
+returns c = pair-stored (c .args .out .now) (c .args .at) (c .args .a) (c .args .b)
+
+pub put-pair-spec : {M : Type 1} → statement M
+put-pair-spec = tie.close (tie.spec slice-write-out add-out slice-write-out-2 same-length returns)
