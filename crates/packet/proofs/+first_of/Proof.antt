@@ -1,0 +1,130 @@
+-- `packet::first_of` meets its contract: each call goes one record on, with one less to go.
+use Prim.Native.Nat.{ℕ, _<_}
+use native.Mathlib.Omega.{arith}
+use borrow.Author.Needs.{needs}
+use borrow.Fn.Kinds.{In}
+use borrow.Fn.PlainCycle.{Measures, is, falls, and}
+use Rattle.packet.proofs.WalkLaws.{walk-starts, walk-next, none-of-type, first-more}
+use Rattle.packet.proofs.first_of.Reads as first-of
+use Rattle.packet.proofs.first_of.Kinds as first-of-kinds
+use Rattle.packet.proofs.+first_of.Lts-first_of as first-of-lts
+use Rattle.packet.proofs.behind.Reads as behind-reads
+use Rattle.packet.proofs.of_type.Reads as of-type-reads
+use Rattle.packet.proofs.or_else.Reads as or-else-reads
+use Rattle.packet.proofs.+first_of.{statement}
+use Rattle.packet.proofs.+first_of.Tie.{close}
+
+abbrev μ-first-of : Measures 1 first-of-kinds.ps ℕ
+μ-first-of κs a = a .1 .1 .0
+
+abbrev first-of-at : ℕ → In 1 first-of-kinds.ps
+first-of-at t = and 1 first-of-kinds.ps (is 1 first-of-kinds.ps μ-first-of t) first-of.Pre
+
+abbrev first-of-below : ℕ → In 1 first-of-kinds.ps
+first-of-below t =
+    and 1 first-of-kinds.ps (falls 1 first-of-kinds.ps _<_ μ-first-of t) first-of.Pre
+
+first-of-returns : (t : ℕ) → first-of-lts.Need-returns (
+  of-type-reads.Asked,
+  of-type-reads.Learnt,
+  behind-reads.Asked,
+  behind-reads.Learnt,
+  first-of-below t,
+  first-of.Post,
+  or-else-reads.Asked,
+  or-else-reads.Learnt,
+) (first-of-at t) first-of.Post
+first-of-returns t c = none-of-type _ _ _ _ (c .if1 .taken)
+
+first-of-of-type-requires : (t : ℕ) → first-of-lts.Need-of-type-requires (
+  of-type-reads.Asked,
+  of-type-reads.Learnt,
+  behind-reads.Asked,
+  behind-reads.Learnt,
+  first-of-below t,
+  first-of.Post,
+  or-else-reads.Asked,
+  or-else-reads.Learnt,
+) (first-of-at t) first-of.Post
+first-of-of-type-requires t c κs = search needs
+
+first-of-behind-requires : (t : ℕ) → first-of-lts.Need-behind-requires (
+  of-type-reads.Asked,
+  of-type-reads.Learnt,
+  behind-reads.Asked,
+  behind-reads.Learnt,
+  first-of-below t,
+  first-of.Post,
+  or-else-reads.Asked,
+  or-else-reads.Learnt,
+) (first-of-at t) first-of.Post
+first-of-behind-requires t c κs = walk-starts _ _ _ (c .before .before .before .pre .1)
+
+first-of-sub-first-of : (t : ℕ) → first-of-lts.Need-sub-first-of (
+  of-type-reads.Asked,
+  of-type-reads.Learnt,
+  behind-reads.Asked,
+  behind-reads.Learnt,
+  first-of-below t,
+  first-of.Post,
+  or-else-reads.Asked,
+  or-else-reads.Learnt,
+) (first-of-at t) first-of.Post
+first-of-sub-first-of t c = search needs
+
+first-of-first-of-requires : (t : ℕ) → first-of-lts.Need-first-of-requires (
+  of-type-reads.Asked,
+  of-type-reads.Learnt,
+  behind-reads.Asked,
+  behind-reads.Learnt,
+  first-of-below t,
+  first-of.Post,
+  or-else-reads.Asked,
+  or-else-reads.Learnt,
+) (first-of-at t) first-of.Post
+first-of-first-of-requires t c κs = (omega (arith, c .before .before .before .before .pre .0, c .before .before .if1 .left), walk-next _ _ _ (c .before .before .if1 .left) (c .behind .ensures) (c .before .before .before .before .pre .1))
+
+first-of-or-else-requires : (t : ℕ) → first-of-lts.Need-or-else-requires (
+  of-type-reads.Asked,
+  of-type-reads.Learnt,
+  behind-reads.Asked,
+  behind-reads.Learnt,
+  first-of-below t,
+  first-of.Post,
+  or-else-reads.Asked,
+  or-else-reads.Learnt,
+) (first-of-at t) first-of.Post
+first-of-or-else-requires t c κs = search needs
+
+first-of-returns-2 : (t : ℕ) → first-of-lts.Need-returns-2 (
+  of-type-reads.Asked,
+  of-type-reads.Learnt,
+  behind-reads.Asked,
+  behind-reads.Learnt,
+  first-of-below t,
+  first-of.Post,
+  or-else-reads.Asked,
+  or-else-reads.Learnt,
+) (first-of-at t) first-of.Post
+first-of-returns-2 t c = first-more _ _ _ _ (c .before .before .before .before .if1 .left) (c .before .before .before .of-type .ensures) (c .before .before .behind .ensures) (c .before .first-of .ensures) (c .or-else .ensures)
+
+pub +first-of-spec : {M : Type 1} → statement M
++first-of-spec = close μ-first-of λ t. first-of-lts.spec (
+  of-type-reads.Asked,
+  of-type-reads.Learnt,
+  behind-reads.Asked,
+  behind-reads.Learnt,
+  first-of-below t,
+  first-of.Post,
+  or-else-reads.Asked,
+  or-else-reads.Learnt,
+)
+    (first-of-at t)
+    first-of.Post
+    (first-of-returns t)
+    (first-of-of-type-requires t)
+    (first-of-behind-requires t)
+    (first-of-sub-first-of t)
+    (first-of-first-of-requires t)
+    (first-of-or-else-requires t)
+    (first-of-returns-2 t)

@@ -1,0 +1,4 @@
+pub mod WalkLaws
+pub mod Opened
+pub mod FieldLaws
+pub mod Theorems

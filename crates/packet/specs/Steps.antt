@@ -1,0 +1,23 @@
+-- What stepping through a packet from its first record gives (paper 01, "Fields").
+use mathlib.Core.Path.{_≡_}
+use mathlib.Core.List.{List}
+use Prim.Native.Nat.{ℕ, zero, suc, _<_}
+use Rattle.mmwave.specs.Profile.{Profile}
+use Rattle.packet.specs.declared.PacketRecord.{PacketRecord}
+use Rattle.packet.specs.declared.PacketStep.{PacketStep}
+use Rattle.packet.specs.Walk.{recordsOf}
+use Rattle.packet.specs.Fields.{recordOf, noStep, stepOf}
+
+-- the step that shows a record and leaves the cursor at this offset
+abbrev pub stepOver : PacketRecord → ℕ → PacketStep
+stepOver r at = record { refusal = r .refusal; kind = r .kind; start = r .start; length = r .length; next = record { at = at } }
+
+-- the cursor's offset after j steps from 40
+unfoldable pub cursorAfter : Profile → List ℕ → ℕ → ℕ
+cursorAfter P bs zero = 40
+cursorAfter P bs (suc j) = stepOf P bs (cursorAfter P bs j) .next .at
+
+-- the steps from 40 on show record 0, 1, .. K - 1, and the next one answers 6 and stays
+pub record StepsAreRecords (P : Profile) (bs : List ℕ) : Type 0 where
+  pub each : (j : ℕ) → j < recordsOf bs → stepOf P bs (cursorAfter P bs j) ≡ stepOver (recordOf P bs j) (cursorAfter P bs (suc j))
+  pub then-refused : stepOf P bs (cursorAfter P bs (recordsOf bs)) ≡ noStep (cursorAfter P bs (recordsOf bs)) 6
