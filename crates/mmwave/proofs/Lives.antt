@@ -23,7 +23,6 @@ live-payload (suc m) v h l = ((0, omega arith, refl), λ b s a. live-payload m v
 pub live-records : (P : Profile) → Sound P → (n k room : ℕ) → room < 2 ^ 32 → Fills P n k room → Live (records P n k room)
 unfolding records entry last Live _>>=_ Fills lengthOk typeOk
 live-records P S n zero room s f = live-free room (λ _. whole (P .kind)) tt
-<<<<<<< HEAD
 live-records P S n (suc k) room s f =
     let w = S .some-type n k room f in (
       (w .0, w .1, S .type-reads n k room (w .0) .1 (w .2)),
@@ -33,16 +32,6 @@ live-records P S n (suc k) room s f =
             live-payload m m (λ m. records P n k (room - m)) (live-records P S n k (room - m) (omega arith) (d .1)),
       ),
     )
-=======
-live-records P S n (suc k) room s f = (
-  (f .0, f .2, S .type-reads n k room (f .0) .1 (f .1, f .3, (f .4, f .5))),
-  λ type i a. let g = S .type-reads n k room type .0 a in (
-    (g .0, omega (arith, g .2 .0), passes type (g .0) (g .1) (S .length-reads n k room (g .0) .1 (g .2))),
-    λ m j b. let d = S .length-reads n k room m .0 (and-both (legal (P .rule type n) m) (P .fits (suc k) room m) b .1) in
-        live-payload m m (λ m. records P n k (room - m)) (live-records P S n k (room - m) (omega arith) (d .1)),
-  ),
-)
->>>>>>> 6e8cf84 (Judge at an offset, read captures open and closed, choose between two lines)
   where
     passes : (type m : ℕ) → legal (P .rule type n) m ≡ true → P .fits (suc k) room m ≡ true → lengthOk P (P .rule type n) (suc k) room m ≡ true
     passes type m l f = sym (length-both P (P .rule type n) (suc k) room m (sym l) refl (sym f))
