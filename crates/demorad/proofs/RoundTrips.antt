@@ -86,6 +86,14 @@ refusal-read bs =
     (λ t. rw t (sym (eqb-true (readRefusal bs) 0 t)))
     (λ f. rw f)
 
+-- a refusal answers its number, and every other number is 0
+pub refused-zero : (bs : List ℕ) → (readCommand bs .refusal ≡ 0 → ⊥) → readCommand bs ≡ refusedCommand (readCommand bs .refusal)
+unfolding readCommand
+refused-zero bs h =
+    test (eqb (readRefusal bs) 0)
+    (λ t. absurd (h (refusal-read bs ∙ eqb-true (readRefusal bs) 0 t)))
+    (λ f. rw f)
+
 module _ (bs : List ℕ) (bytes : Bytes bs) (ok : readCommand bs .refusal ≡ 0) where
   none : readRefusal bs ≡ 0
   none = sym (refusal-read bs) ∙ ok

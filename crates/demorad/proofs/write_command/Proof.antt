@@ -53,7 +53,7 @@ put-payload-requires c κs =
     let legal = is-legal (a .code) (a .count) (a .words) ok in
     let p = c .before .before .before .put-word in
     let same : length (p .last .0) ≡ length (a .out .now) = ap length (p .ensures) ∙ length-word-stored (a .out .now) 0 (c .before .before .before .before .before .header-word .result) in
-    (legal .few, omega arith)
+    (omega arith, omega arith)
 
 same-length : tie.Need-same-length
 same-length c = search needs
