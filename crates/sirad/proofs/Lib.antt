@@ -1,4 +1,8 @@
+pub mod Runs
+pub mod Numbers
 pub mod Laws
+pub mod RowLaws
+pub mod TableLaws
 pub mod Theorems
 pub mod Starts
-pub mod TableLaws
+pub mod Reasons

@@ -1,130 +1,32 @@
--- Frames by the form, by the rows of pieces and by the paper's table are the same. The form is laid out along the classes of a row, and the classes of a row are the table's, byte by byte.
-use mathlib.Core.Bool.{true, false}
+-- Frames by the form and by the paper's table are the same: the classes of a row are the table's, byte by byte.
+use mathlib.Core.Bool.{true}
 use mathlib.Core.Path.{_≡_, refl, sym, ap, subst, _∙_}
 use mathlib.Core.List.{List, [], _∷_}
 use mathlib.Core.Logic.{_↔_}
 use Prim.Native.Nat.{ℕ, zero, suc, _+_, _-_, _<_, _≤_}
 use native.Mathlib.Nat.{add-zero}
 use native.Mathlib.Omega.{arith}
-use borrow.Author.Tests.{lt-ltb, le-ltb, le-leb, eq-eqb, eqb-true, ne-eqb}
+use borrow.Author.Tests.{lt-ltb, le-ltb, le-leb, eq-eqb, ne-eqb}
 use lib.Dec.{eqb, leb}
 use lib.ListN.{length, getD, take, drop}
 use lib.Seq.{length-take-le}
-use Rattle.digits.specs.Hex.{hexFrom, hexAt}
-use Rattle.digits.proofs.Choices.{test, both-ways}
+use Rattle.digits.specs.Hex.{hexAt}
+use Rattle.digits.proofs.Choices.{test}
 use Rattle.form.specs.declared.Judgement.the-variants.{Whole}
 use Rattle.form.specs.Form.{_>>=_, judge, Frame, Stands}
 use Rattle.form.proofs.Theorems.{judged-frame, judged-stands, frame-whole}
 use Rattle.sirad.specs.declared.Class.{Class}
 use Rattle.sirad.specs.declared.Class.the-variants.{Hex, Char, Cr, Lf}
 use Rattle.sirad.specs.Classes.{accepts, Passes}
-use Rattle.sirad.specs.Rows.{classes, characters, blocks, dataPieces, rPieces, tPieces, uPieces, ePieces, rowOf}
-use Rattle.sirad.specs.Sirad.{lay, number, sized, kindOf, known, body, sirad}
-use Rattle.sirad.specs.Table.{identifier, total, classAt, TableFrame, RowFrame}
-
--- -- The form along a row
-
-lay-passes : (cs : List Class) (v k : ℕ) (bs : List ℕ) → Frame (lay cs v) k bs → Passes cs bs × (v ≡ k)
-unfolding lay Frame Passes
-lay-passes [] v k [] f = (tt, f)
-lay-passes [] v k (b ∷ bs) f = absurd f
-lay-passes (c ∷ cs) v k [] f = absurd f
-lay-passes (c ∷ cs) v k (b ∷ bs) f = let r = lay-passes cs v k bs (f .1) in ((f .0, r .0), r .1)
-
-passes-lay : (cs : List Class) (v k : ℕ) (bs : List ℕ) → Passes cs bs → v ≡ k → Frame (lay cs v) k bs
-unfolding lay Frame Passes
-passes-lay [] v k [] p e = e
-passes-lay [] v k (b ∷ bs) p e = absurd p
-passes-lay (c ∷ cs) v k [] p e = absurd p
-passes-lay (c ∷ cs) v k (b ∷ bs) p e = (p .0, passes-lay cs v k bs (p .1) e)
-
-sized-passes : (v k : ℕ) (bs : List ℕ) → Frame (sized v) k bs → Passes (classes (rPieces (hexFrom 0 (take 4 bs)))) bs × (v ≡ k)
-unfolding number Frame Passes classes hexFrom _>>=_
-sized-passes v k [] f = absurd f
-sized-passes v k (a ∷ []) f = absurd (f .1)
-sized-passes v k (a ∷ b ∷ []) f = absurd (f .1 .1)
-sized-passes v k (a ∷ b ∷ c ∷ []) f = absurd (f .1 .1 .1)
-sized-passes v k (a ∷ b ∷ c ∷ d ∷ bs) f =
-    let r = lay-passes (classes (dataPieces (hexFrom 0 (a ∷ b ∷ c ∷ d ∷ [])))) v k bs (f .1 .1 .1 .1) in
-    ((f .0, (f .1 .0, (f .1 .1 .0, (f .1 .1 .1 .0, r .0)))), r .1)
-
-passes-sized : (v k : ℕ) (bs : List ℕ) → Passes (classes (rPieces (hexFrom 0 (take 4 bs)))) bs → v ≡ k → Frame (sized v) k bs
-unfolding number Frame Passes classes hexFrom _>>=_
-passes-sized v k [] p e = absurd p
-passes-sized v k (a ∷ []) p e = absurd (p .1)
-passes-sized v k (a ∷ b ∷ []) p e = absurd (p .1 .1)
-passes-sized v k (a ∷ b ∷ c ∷ []) p e = absurd (p .1 .1 .1)
-passes-sized v k (a ∷ b ∷ c ∷ d ∷ bs) p e =
-    (p .0, (p .1 .0, (p .1 .1 .0, (p .1 .1 .1 .0, passes-lay (classes (dataPieces (hexFrom 0 (a ∷ b ∷ c ∷ d ∷ [])))) v k bs (p .1 .1 .1 .1) e))))
-
--- -- The form and the rows
-
-made : (v k b c : ℕ) (bs : List ℕ) → 1 ≤ v → v ≤ 6 → b ≡ 33 → c ≡ identifier v → Passes (classes (rowOf v (hexFrom 0 (take 4 bs)))) bs × (v ≡ k) → RowFrame k (b ∷ c ∷ bs)
-made v k b c bs s m e i p = subst (λ (k : ℕ). RowFrame k (b ∷ c ∷ bs)) (p .1) (record { some = s; most = m; start = e; named = i; passes = p .0 })
-
-module _ (b c k : ℕ) (bs : List ℕ) (s : b ≡ 33) (t : known (kindOf c) ≡ true) (f : Frame (body (kindOf c)) k bs) where
-  at-identifier : (d : ℕ) → eqb c d ≡ true → Frame (body (kindOf d)) k bs
-  at-identifier d h = subst (λ (x : ℕ). Frame (body (kindOf x)) k bs) (eqb-true c d h) f
-
-  row-of : RowFrame k (b ∷ c ∷ bs)
-  unfolding body
-  row-of =
-      test (eqb c 82) (λ h. made 1 k b c bs (omega arith) (omega arith) s (eqb-true c 82 h) (sized-passes 1 k bs (at-identifier 82 h)))
-      (λ h₁. test (eqb c 80) (λ h. made 2 k b c bs (omega arith) (omega arith) s (eqb-true c 80 h) (sized-passes 2 k bs (at-identifier 80 h)))
-      (λ h₂. test (eqb c 67) (λ h. made 3 k b c bs (omega arith) (omega arith) s (eqb-true c 67 h) (sized-passes 3 k bs (at-identifier 67 h)))
-      (λ h₃. test (eqb c 84) (λ h. made 4 k b c bs (omega arith) (omega arith) s (eqb-true c 84 h) (lay-passes (classes tPieces) 4 k bs (at-identifier 84 h)))
-      (λ h₄. test (eqb c 85) (λ h. made 5 k b c bs (omega arith) (omega arith) s (eqb-true c 85 h) (lay-passes (classes uPieces) 5 k bs (at-identifier 85 h)))
-      (λ h₅. test (eqb c 69) (λ h. made 6 k b c bs (omega arith) (omega arith) s (eqb-true c 69 h) (lay-passes (classes ePieces) 6 k bs (at-identifier 69 h)))
-      (λ h₆. none h₁ h₂ h₃ h₄ h₅ h₆))))))
-    where
-      none : eqb c 82 ≡ false → eqb c 80 ≡ false → eqb c 67 ≡ false → eqb c 84 ≡ false → eqb c 85 ≡ false → eqb c 69 ≡ false → RowFrame k (b ∷ c ∷ bs)
-      none h₁ h₂ h₃ h₄ h₅ h₆ = both-ways (known (kindOf c)) t (rw (h₁, h₂, h₃, h₄, h₅, h₆))
-
-form-row : (k : ℕ) (bs : List ℕ) → Frame sirad k bs → RowFrame k bs
-unfolding sirad _>>=_ Frame
-form-row k [] f = absurd f
-form-row k (b ∷ []) f = absurd (f .1)
-form-row k (b ∷ c ∷ bs) f = row-of b c k bs (eqb-true b 33 (f .0)) (f .1 .0) (f .1 .1)
-
-framed : (k b c : ℕ) (bs : List ℕ) (d : ℕ) → b ≡ 33 → c ≡ d → known (kindOf d) ≡ true → Frame (body (kindOf d)) k bs → Frame sirad k (b ∷ c ∷ bs)
-unfolding sirad _>>=_ Frame
-framed k b c bs d s e t f = (eq-eqb b 33 s, (ap (λ (x : ℕ). known (kindOf x)) e ∙ t, subst (λ (x : ℕ). Frame (body (kindOf x)) k bs) (sym e) f))
-
-framed-as : (k b c : ℕ) (bs : List ℕ) → 1 ≤ k → k ≤ 6 → b ≡ 33 → c ≡ identifier k → Passes (classes (rowOf k (hexFrom 0 (take 4 bs)))) bs → Frame sirad k (b ∷ c ∷ bs)
-unfolding body
-framed-as zero b c bs l m s e p = absurd (omega arith)
-framed-as (suc zero) b c bs l m s e p = framed 1 b c bs 82 s e refl (passes-sized 1 1 bs p refl)
-framed-as (suc (suc zero)) b c bs l m s e p = framed 2 b c bs 80 s e refl (passes-sized 2 2 bs p refl)
-framed-as (suc (suc (suc zero))) b c bs l m s e p = framed 3 b c bs 67 s e refl (passes-sized 3 3 bs p refl)
-framed-as (suc (suc (suc (suc zero)))) b c bs l m s e p = framed 4 b c bs 84 s e refl (passes-lay (classes tPieces) 4 4 bs p refl)
-framed-as (suc (suc (suc (suc (suc zero))))) b c bs l m s e p = framed 5 b c bs 85 s e refl (passes-lay (classes uPieces) 5 5 bs p refl)
-framed-as (suc (suc (suc (suc (suc (suc zero)))))) b c bs l m s e p = framed 6 b c bs 69 s e refl (passes-lay (classes ePieces) 6 6 bs p refl)
-framed-as (suc (suc (suc (suc (suc (suc (suc k))))))) b c bs l m s e p = absurd (omega arith)
-
--- no kind from 1 to 6 has the identifier 0
-named-there : (k : ℕ) → 1 ≤ k → k ≤ 6 → 0 ≡ identifier k → ⊥
-named-there zero l m e = omega arith
-named-there (suc zero) l m e = let z : _≡_ {A = ℕ} 0 82 = e in omega arith
-named-there (suc (suc zero)) l m e = let z : _≡_ {A = ℕ} 0 80 = e in omega arith
-named-there (suc (suc (suc zero))) l m e = let z : _≡_ {A = ℕ} 0 67 = e in omega arith
-named-there (suc (suc (suc (suc zero)))) l m e = let z : _≡_ {A = ℕ} 0 84 = e in omega arith
-named-there (suc (suc (suc (suc (suc zero))))) l m e = let z : _≡_ {A = ℕ} 0 85 = e in omega arith
-named-there (suc (suc (suc (suc (suc (suc zero)))))) l m e = let z : _≡_ {A = ℕ} 0 69 = e in omega arith
-named-there (suc (suc (suc (suc (suc (suc (suc k))))))) l m e = omega arith
-
-row-form : (k : ℕ) (bs : List ℕ) → RowFrame k bs → Frame sirad k bs
-row-form k [] r = let z : _≡_ {A = ℕ} 0 33 = r .start in absurd (omega arith)
-row-form k (b ∷ []) r = absurd (named-there k (r .some) (r .most) (r .named))
-row-form k (b ∷ c ∷ bs) r = framed-as k b c bs (r .some) (r .most) (r .start) (r .named) (r .passes)
-
--- a frame of the form is one by its row of pieces
-pub row-is-form : (k : ℕ) (bs : List ℕ) → Frame sirad k bs ↔ RowFrame k bs
-row-is-form k bs = (form-row k bs, row-form k bs)
+use Rattle.sirad.specs.Rows.{classes, characters, blocks, rPieces, rowOf}
+use Rattle.sirad.specs.Sirad.{sirad}
+use Rattle.sirad.specs.Table.{total, classAt, TableFrame, RowFrame}
+use Rattle.sirad.proofs.RowLaws.{form-row, row-form, named-there}
 
 -- -- The rows and the table
 
 -- the classes of n bytes from byte i on
-unfoldable column : (ℕ → Class) → ℕ → ℕ → List Class
+unfoldable pub column : (ℕ → Class) → ℕ → ℕ → List Class
 column f i zero = []
 column f i (suc n) = f i ∷ column f (suc i) n
 
@@ -210,11 +112,11 @@ module _ (kind n : ℕ) (k : kind ≤ 3) where
           ∷ rest t
 
 -- the classes of a kind's row are the table's
-record Shape (kind n : ℕ) : Type 0 where
-  bytes : ℕ
-  many : 1 ≤ bytes
-  whole-size : total kind n ≡ suc (suc bytes)
-  column-is : classes (rowOf kind n) ≡ column (classAt kind (suc (suc bytes))) 2 bytes
+pub record Shape (kind n : ℕ) : Type 0 where
+  pub bytes : ℕ
+  pub many : 1 ≤ bytes
+  pub whole-size : total kind n ≡ suc (suc bytes)
+  pub column-is : classes (rowOf kind n) ≡ column (classAt kind (suc (suc bytes))) 2 bytes
 
 sized-shape : (kind n : ℕ) → kind ≤ 3 → Shape kind n
 unfolding size
@@ -228,7 +130,8 @@ sized-shape kind n k =
       column-is = rw (le-leb kind 3 k, e) (sized-column kind n k ∙ ap (column (classAt kind (size kind n k)) 2) d);
     }
 
-shape : (kind n : ℕ) → 1 ≤ kind → kind ≤ 6 → Shape kind n
+-- every kind has one
+pub shape : (kind n : ℕ) → 1 ≤ kind → kind ≤ 6 → Shape kind n
 unfolding column classes characters blocks classAt
 shape zero n l m = absurd (omega arith)
 shape (suc zero) n l m = sized-shape 1 n (omega arith)

@@ -1,5 +1,5 @@
 -- Paper 01's table of the SiRad frames by byte number: identifier, class of every byte, total bytes.
-use mathlib.Core.Bool.{true, cond}
+use mathlib.Core.Bool.{true, false, cond}
 use mathlib.Core.Path.{_≡_}
 use mathlib.Core.List.{List}
 use Prim.Native.Nat.{ℕ, _+_, _-_, _%_, _<_, _≤_}
@@ -8,7 +8,7 @@ use lib.ListN.{length, getD, drop}
 use Rattle.digits.specs.Hex.{hexAt}
 use Rattle.sirad.specs.declared.Class.{Class}
 use Rattle.sirad.specs.declared.Class.the-variants.{Hex, Char, Cr, Lf}
-use Rattle.sirad.specs.Classes.{accepts, Passes}
+use Rattle.sirad.specs.Classes.{accepts, reason, Passes}
 use Rattle.sirad.specs.Rows.{classes, rowOf}
 
 -- column "Id", kinds 1 to 6
@@ -52,3 +52,17 @@ pub record RowFrame (kind : ℕ) (bs : List ℕ) : Type 0 where
   pub start : getD bs 0 0 ≡ 33
   pub named : getD bs 1 0 ≡ identifier kind
   pub passes : Passes (classes (rowOf kind (hexAt 4 2 bs))) (drop 2 bs)
+
+-- of a frame of size bytes, byte at is the first behind the identifier that is not of its class
+pub record FirstFails (kind size at : ℕ) (bs : List ℕ) : Type 0 where
+  pub behind : 2 ≤ at
+  pub there : at < length bs
+  pub inside : at < size
+  pub passed : (i : ℕ) → 2 ≤ i → i < at → accepts (classAt kind size i) (getD bs i 0) ≡ true
+  pub fails : accepts (classAt kind size at) (getD bs at 0) ≡ false
+
+-- the bytes are refused with this reason, by the table: the first byte that fails its check gives it (paper 01, "Judging a place")
+pub data Refused (bs : List ℕ) : ℕ → Type 0 where
+  no-start : 1 ≤ length bs → (getD bs 0 0 ≡ 33 → ⊥) → Refused bs 10
+  no-identifier : 2 ≤ length bs → getD bs 0 0 ≡ 33 → ((kind : ℕ) → 1 ≤ kind → kind ≤ 6 → getD bs 1 0 ≡ identifier kind → ⊥) → Refused bs 11
+  no-member : (kind at : ℕ) → 1 ≤ kind → kind ≤ 6 → getD bs 0 0 ≡ 33 → getD bs 1 0 ≡ identifier kind → FirstFails kind (total kind (hexAt 4 2 bs)) at bs → Refused bs (reason (classAt kind (total kind (hexAt 4 2 bs)) at))

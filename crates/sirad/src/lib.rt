@@ -15,11 +15,16 @@ ghost use Rattle.sirad.specs.Sirad.{row, run, number, block, head, sized
 ghost use Rattle.sirad.specs.Steps.{StepOf};
 
 // The byte that starts every frame and stands nowhere else in one.
-pub const START_MARKER: u8 = 33;
+pub const START_MARKER: u8 = b'!';
 
 const CR: u8 = 13;
 
 const LF: u8 = 10;
+
+// A character is a byte from the first to the last (document 000).
+const FIRST_CHARACTER: u8 = 34;
+
+const LAST_CHARACTER: u8 = 254;
 
 // The reasons of this wire (paper 01, "Judging a place").
 pub const NO_START: u32 = 10;
@@ -50,6 +55,13 @@ const SIZE_DIGITS: usize = 4;
 const RESERVED: usize = 8;
 
 const BLOCKS: usize = 16;
+
+const BLOCK_BYTES: usize = 14;
+
+// Five numbers of a U frame, the flags of an E frame.
+const STATUS_DIGITS: usize = 20;
+
+const FLAG_DIGITS: usize = 4;
 
 // Bytes that are tested together; any number from 1 on would do.
 const CHUNK: usize = 64;
@@ -94,8 +106,8 @@ fn between(low: u8, high: u8, b: u8) -> bool
 fn is_hex(b: u8) -> bool
     ensures { λ r. ⌜ r ≡ isHex b ⌝ }
 {
-    let figure = between(48, 57, b);
-    let letter = between(65, 70, b);
+    let figure = between(b'0', b'9', b);
+    let letter = between(b'A', b'F', b);
     either(figure, letter)
 }
 
@@ -104,7 +116,7 @@ fn is_of(c: Class, b: u8) -> bool
 {
     match c {
         Class::Hex => is_hex(b),
-        Class::Char => between(34, 254, b),
+        Class::Char => between(FIRST_CHARACTER, LAST_CHARACTER, b),
         Class::Cr => b == CR,
         Class::Lf => b == LF,
     }
@@ -124,10 +136,10 @@ fn reason_of(c: Class) -> u32
 fn digit_of(b: u8) -> u32
     ensures { λ r. ⌜ r ≡ digit b ⌝ }
 {
-    if between(48, 57, b) {
+    if between(b'0', b'9', b) {
         return b as u32 - 48;
     }
-    if between(65, 70, b) {
+    if between(b'A', b'F', b) {
         return b as u32 - 55;
     }
     0
@@ -327,9 +339,9 @@ fn block_at(s: &[u8], from: usize) -> Judgement
     ensures { λ r. ⌜ r ≡ judgeAt block from (now (s .entry)) ⌝ }
 {
     if from <= s.len() {
-        if 14 <= s.len() - from {
+        if BLOCK_BYTES <= s.len() - from {
             if seen_block(s, from) {
-                let end = from + 14;
+                let end = from + BLOCK_BYTES;
                 return Judgement::Whole(0, end);
             }
         }
@@ -388,7 +400,7 @@ fn status_update(s: &[u8], at: usize) -> Judgement
     let Judgement::Whole(_, i) = a else {
         return a;
     };
-    let b = hexes(s, i, 20);
+    let b = hexes(s, i, STATUS_DIGITS);
     let Judgement::Whole(_, j) = b else {
         return b;
     };
@@ -398,7 +410,7 @@ fn status_update(s: &[u8], at: usize) -> Judgement
 fn error_flags(s: &[u8], at: usize) -> Judgement
     ensures { λ r. ⌜ r ≡ judgeAt (row ePieces 6) at (now (s .entry)) ⌝ }
 {
-    let a = hexes(s, at, 4);
+    let a = hexes(s, at, FLAG_DIGITS);
     let Judgement::Whole(_, i) = a else {
         return a;
     };
@@ -409,12 +421,12 @@ fn kind_of(b: u8) -> Kind
     ensures { λ r. ⌜ r ≡ kindOf b ⌝ }
 {
     match b {
-        82 => Kind::Sized(RANGE),
-        80 => Kind::Sized(PHASE),
-        67 => Kind::Sized(CFAR),
-        84 => Kind::Targets,
-        85 => Kind::Status,
-        69 => Kind::Flags,
+        b'R' => Kind::Sized(RANGE),
+        b'P' => Kind::Sized(PHASE),
+        b'C' => Kind::Sized(CFAR),
+        b'T' => Kind::Targets,
+        b'U' => Kind::Status,
+        b'E' => Kind::Flags,
         _ => Kind::Unknown,
     }
 }

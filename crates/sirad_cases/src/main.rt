@@ -151,7 +151,7 @@ fn lay(s: &mut [u8], id: u8, a: u8, b: u8, c: u8, d: u8) {
     if n < 8 {
         return;
     }
-    s[0] = 33;
+    s[0] = b'!';
     s[1] = id;
     s[2] = a;
     s[3] = b;
@@ -172,32 +172,32 @@ fn tried(name: &[u8], s: &mut [u8], step: usize)
 
 // The sized frames, all bytes that are free `0`.
 fn sized_frames() {
-    let mut a = [48u8; 16];
-    lay(&mut a, 82, 48, 48, 48, 48);
+    let mut a = [b'0'; 16];
+    lay(&mut a, b'R', b'0', b'0', b'0', b'0');
     tried(b"R 0000", &mut a, 1);
-    let mut b = [48u8; 17];
-    lay(&mut b, 80, 48, 48, 48, 49);
+    let mut b = [b'0'; 17];
+    lay(&mut b, b'P', b'0', b'0', b'0', b'1');
     tried(b"P 0001", &mut b, 1);
-    let mut c = [48u8; 271];
-    lay(&mut c, 67, 48, 48, 70, 70);
+    let mut c = [b'0'; 271];
+    lay(&mut c, b'C', b'0', b'0', b'F', b'F');
     tried(b"C 00FF", &mut c, 1);
 }
 
 fn longest_frame() {
-    let mut a = [48u8; 65551];
-    lay(&mut a, 80, 70, 70, 70, 70);
+    let mut a = [b'0'; 65551];
+    lay(&mut a, b'P', b'F', b'F', b'F', b'F');
     tried(b"P FFFF", &mut a, 13103);
 }
 
 fn fixed_frames() {
-    let mut a = [48u8; 230];
-    lay(&mut a, 84, 53, 90, 48, 48);
+    let mut a = [b'0'; 230];
+    lay(&mut a, b'T', b'5', b'Z', b'0', b'0');
     tried(b"T", &mut a, 1);
-    let mut b = [48u8; 26];
-    lay(&mut b, 85, 53, 90, 48, 48);
+    let mut b = [b'0'; 26];
+    lay(&mut b, b'U', b'5', b'Z', b'0', b'0');
     tried(b"U", &mut b, 1);
-    let mut c = [48u8; 8];
-    lay(&mut c, 69, 48, 48, 48, 49);
+    let mut c = [b'0'; 8];
+    lay(&mut c, b'E', b'0', b'0', b'0', b'1');
     tried(b"E", &mut c, 1);
 }
 

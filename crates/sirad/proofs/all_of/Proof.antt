@@ -4,7 +4,7 @@ use borrow.Author.Needs.{needs}
 use mathlib.Core.Bool.{true}
 use mathlib.Core.Path.{_≡_}
 use native.Mathlib.Omega.{arith}
-use Rattle.sirad.proofs.Laws.{Seen, seen-none, seen-next, seen-all}
+use Rattle.sirad.proofs.Runs.{Seen, seen-none, seen-next, seen-all}
 use Rattle.sirad.proofs.all_of.Statement.{statement}
 use Rattle.sirad.proofs.all_of.Tie as tie
 

@@ -3,7 +3,7 @@ use borrow.Author.Needs.{needs}
 use mathlib.Core.Path.{sym, ap, _∙_}
 use native.Mathlib.Omega.{arith}
 use Rattle.form.specs.declared.Judgement.the-variants.{Bad}
-use Rattle.sirad.proofs.Laws.{one-ends, one-hit, one-miss}
+use Rattle.sirad.proofs.Runs.{one-ends, one-hit, one-miss}
 use Rattle.sirad.proofs.byte_of.Statement.{statement}
 use Rattle.sirad.proofs.byte_of.Tie as tie
 

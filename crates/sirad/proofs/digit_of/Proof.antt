@@ -2,7 +2,7 @@
 use borrow.Author.Needs.{needs}
 use mathlib.Core.Path.{sym, _∙_}
 use native.Mathlib.Omega.{arith}
-use Rattle.sirad.proofs.Laws.{within-low, digit-figure, digit-letter, digit-none}
+use Rattle.sirad.proofs.Numbers.{within-low, digit-figure, digit-letter, digit-none}
 use Rattle.sirad.proofs.digit_of.Statement.{statement}
 use Rattle.sirad.proofs.digit_of.Tie as tie
 

@@ -2,7 +2,8 @@
 use borrow.Author.Needs.{needs}
 use mathlib.Core.Path.{sym, _∙_}
 use Rattle.form.proofs.Laws.{go-on, halt}
-use Rattle.sirad.proofs.Laws.{head-form, whole-here}
+use Rattle.sirad.proofs.Laws.{head-form}
+use Rattle.sirad.proofs.Runs.{whole-here}
 use Rattle.sirad.proofs.head_at.Statement.{statement}
 use Rattle.sirad.proofs.head_at.Tie as tie
 

@@ -8,7 +8,7 @@ use native.Mathlib.Omega.{arith}
 use Rattle.digits.proofs.HexLaws.{digit-small}
 use Rattle.form.specs.Form.{judgeAt}
 use Rattle.sirad.specs.Sirad.{number}
-use Rattle.sirad.proofs.Laws.{number-none, number-grows, number-fits, number-ends, number-miss, number-hit, number-over}
+use Rattle.sirad.proofs.Numbers.{number-none, number-grows, number-fits, number-ends, number-miss, number-hit, number-over}
 use Rattle.sirad.proofs.hex_number.Statement.{statement}
 use Rattle.sirad.proofs.hex_number.Tie as tie
 

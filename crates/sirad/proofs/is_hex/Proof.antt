@@ -1,7 +1,7 @@
 -- `sirad::is_hex` meets its contract. A figure or a letter.
 use borrow.Author.Needs.{needs}
 use mathlib.Core.Path.{_∙_}
-use Rattle.sirad.proofs.Laws.{hex-of}
+use Rattle.sirad.proofs.Runs.{hex-of}
 use Rattle.sirad.proofs.is_hex.Statement.{statement}
 use Rattle.sirad.proofs.is_hex.Tie as tie
 

@@ -3,7 +3,7 @@ use borrow.Author.Needs.{needs}
 use mathlib.Core.Path.{_≡_, refl, sym, _∙_}
 use Rattle.form.specs.Form.{judgeAt}
 use Rattle.sirad.specs.Sirad.{run}
-use Rattle.sirad.proofs.Laws.{run-next, run-halts, run-over}
+use Rattle.sirad.proofs.Runs.{run-next, run-halts, run-over}
 use Rattle.sirad.proofs.span.Statement.{statement}
 use Rattle.sirad.proofs.span.Tie as tie
 

@@ -2,7 +2,8 @@
 use borrow.Author.Needs.{needs}
 use mathlib.Core.Path.{sym, _∙_}
 use Rattle.form.proofs.Laws.{go-on, halt}
-use Rattle.sirad.proofs.Laws.{stop-form, whole-here}
+use Rattle.sirad.proofs.Laws.{stop-form}
+use Rattle.sirad.proofs.Runs.{whole-here}
 use Rattle.sirad.proofs.stop.Statement.{statement}
 use Rattle.sirad.proofs.stop.Tie as tie
 
