@@ -1,5 +1,5 @@
 pub mod Dialects
-pub mod Clear
+pub mod Scan
 pub mod Entries
 pub mod Lines
 pub mod Edges

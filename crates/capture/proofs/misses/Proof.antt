@@ -7,7 +7,7 @@ use native.Mathlib.Nat.{add-zero}
 use mathlib.Core.Path.{_≡_}
 use mathlib.Core.Bool.{true}
 use Prim.Native.Nat.{_≤_, _-_, _+_}
-use Rattle.capture.specs.Clear.{Clear}
+use Rattle.capture.specs.Scan.{Clear}
 use Rattle.capture.proofs.Laws.{clear-none, clear-join, clear-one}
 use Rattle.capture.proofs.misses.Statement.{statement}
 use Rattle.capture.proofs.misses.Tie as tie
