@@ -17,18 +17,16 @@ use Rattle.form.specs.declared.Judgement.the-variants.{Whole}
 use Rattle.form.specs.Form.{judge}
 use Rattle.sirad.specs.Sirad.{sirad}
 use Rattle.sirad.specs.Table.{identifier}
-use Rattle.sirad.specs.declared.Class.{Class}
-use Rattle.sirad.specs.Classes.{Passes}
-use Rattle.sirad.specs.Rows.{Piece, classes, blocks, characters, rPieces, tPieces, uPieces, ePieces, dataPieces}
+use Rattle.sirad.specs.Rows.{blocks, characters, rPieces, tPieces, uPieces, ePieces, rowOf}
 use Rattle.sirad_fields.specs.declared.DataFrame.{DataFrame}
 use Rattle.sirad_fields.specs.declared.Target.{Target}
 use Rattle.sirad_fields.specs.declared.TargetFrame.{TargetFrame}
 use Rattle.sirad_fields.specs.declared.StatusFrame.{StatusFrame}
 use Rattle.sirad_fields.specs.declared.ErrorFrame.{ErrorFrame}
 use Rattle.sirad_fields.specs.Values.{values, written, fit, blank}
-use Rattle.sirad_fields.specs.Frames.{frameKind, rowOf, rowIn, numbersIn, frameOf, blankFrame, ReadsBack, WritesBack}
+use Rattle.sirad_fields.specs.Frames.{frameKind, rowIn, numbersIn, frameOf, blankFrame, ReadsBack, WritesBack}
 use Rattle.sirad_fields.specs.Fields.{isData, dataStart, readData, partOf, dataNumbers, dataRefusal, dataBytes, Phases, targetsOf, blockNumbers, targetFields, readTargets, targetNumbers, unencoded, targetsRefusal, targetsBytes, statusFields, readStatus, statusNumbers, sentNumbers, statusRefusal, statusBytes, readError, errorRefusal, errorBytes}
-use Rattle.sirad_fields.proofs.FrameLaws.{data-range, passes-length, length-characters, FrameOf, frame-kind, kind-frame, numbers-back, size-back, written-judged, written-kind, written-again, numbers-fit}
+use Rattle.sirad_fields.proofs.FrameLaws.{data-range, frame-kind, kind-length, numbers-back, size-back, written-judged, written-kind, written-again, numbers-fit}
 use Rattle.sirad_fields.proofs.PhaseLaws.{numbers-targets, targets-numbers}
 
 -- values that are not refused fit
@@ -75,8 +73,8 @@ pub error-read-writes-back : (bs : List ℕ) → readError bs .refusal ≡ 0 →
 unfolding readError values
 error-read-writes-back bs h =
     let k = error-kind bs h in
-    let f = kind-frame 6 bs (omega arith) k in
-    record { fits = rw (k, numbers-fit 6 bs f); same = rw k (written-again 6 bs f) }
+    let p : 0 < 6 = omega arith in
+    record { fits = rw (k, numbers-fit 6 bs p k); same = rw k (written-again 6 bs p k) }
 
 -- -- Status
 
@@ -100,8 +98,8 @@ pub status-read-writes-back : (bs : List ℕ) → readStatus bs .refusal ≡ 0 �
 unfolding readStatus values
 status-read-writes-back bs h =
     let k = status-kind bs h in
-    let f = kind-frame 5 bs (omega arith) k in
-    record { fits = rw (k, numbers-fit 5 bs f); same = rw k (written-again 5 bs f) }
+    let p : 0 < 5 = omega arith in
+    record { fits = rw (k, numbers-fit 5 bs p k); same = rw k (written-again 5 bs p k) }
 
 -- -- Targets
 
@@ -137,9 +135,9 @@ pub targets-read-write-back : (bs : List ℕ) → readTargets bs .refusal ≡ 0
     → WritesBack 4 (targetsRefusal (readTargets bs .format) (readTargets bs .gain) (readTargets bs .targets)) (targetsBytes (readTargets bs .format) (readTargets bs .gain) (readTargets bs .targets)) bs
 targets-read-write-back bs h =
     let k = targets-kind bs h in
-    let f = kind-frame 4 bs (omega arith) k in
-    let e = target-numbers bs k (numbers-fit 4 bs f) in
-    record { fits = rw (e, numbers-fit 4 bs f); same = rw e (written-again 4 bs f) }
+    let p : 0 < 4 = omega arith in
+    let e = target-numbers bs k (numbers-fit 4 bs p k) in
+    record { fits = rw (e, numbers-fit 4 bs p k); same = rw e (written-again 4 bs p k) }
 
 -- -- Data frames
 
@@ -151,7 +149,7 @@ character-values (suc n) [] h = absurd (omega arith)
 character-values (suc n) (x ∷ xs) h = ap (λ (l : List ℕ). x ∷ l) (character-values n xs (omega arith))
 
 -- what a data frame is: 16 + n bytes, and its characters are n bytes from its start on
-pub record DataOf (k n : ℕ) (bs : List ℕ) : Type 0 where
+pub record DataOf (n : ℕ) (bs : List ℕ) : Type 0 where
   pub total : length bs ≡ 16 + n
   pub count : length (take n (drop dataStart bs)) ≡ n
   pub numbers : values (rPieces n) (drop 2 bs) ≡ dataNumbers (take n (drop dataStart bs))
@@ -160,16 +158,14 @@ twelve-on : (xs : List ℕ) → drop 1 (drop 1 (drop 1 (drop 1 (drop 1 (drop 1 (
 twelve-on xs = simp drop-drop
 
 -- a frame of kinds 1 to 3 is one
-pub data-of : (k : ℕ) (bs : List ℕ) → k ≤ 3 → FrameOf k bs → DataOf k (hexAt 4 2 bs) bs
-unfolding classes values
-data-of k bs l f =
+pub data-of : (k : ℕ) (bs : List ℕ) → 1 ≤ k → k ≤ 3 → frameKind bs ≡ k → DataOf (hexAt 4 2 bs) bs
+unfolding values
+data-of k bs l u h =
     let n = hexAt 4 2 bs in
-    let p : Passes (classes (rPieces n)) (drop 2 bs) = rw (le-leb k 3 l) at (f .passed) in
-    let body : length (drop 2 bs) ≡ length (classes (rPieces n)) = passes-length (classes (rPieces n)) (drop 2 bs) p in
-    let total : length bs ≡ 16 + n = omega (arith, ap length (f .starts), body, length-characters n) in
+    let all : length bs ≡ 16 + n = rw (le-leb k 3 u) at (kind-length k bs l h) in
     let long : n ≤ length (drop dataStart bs) = simp length-drop (omega arith) in
     let count : length (take n (drop dataStart bs)) ≡ n = length-take-le n (drop dataStart bs) long in
-    record { total = total; count = count; numbers = rw (twelve-on bs, character-values n (drop dataStart bs) long, count) }
+    record { total = all; count = count; numbers = rw (twelve-on bs, character-values n (drop dataStart bs) long, count) }
 
 -- what data that is not refused is
 pub record DataFits (k : ℕ) (cs : List ℕ) : Type 0 where
@@ -216,7 +212,7 @@ module _ (k : ℕ) (cs : List ℕ) (d : DataFits k cs) where
 
   data-part : take (length cs) (drop dataStart (dataBytes k cs)) ≡ cs
   data-part =
-      let g = data-of k (dataBytes k cs) high (kind-frame k (dataBytes k cs) (omega (arith, low)) data-kind) in
+      let g = data-of k (dataBytes k cs) low high data-kind in
       let e : values (rPieces (length cs)) (drop 2 (dataBytes k cs)) ≡ dataNumbers (take (length cs) (drop dataStart (dataBytes k cs))) = rw data-size at (g .numbers) in
       ap (drop 1) (sym e ∙ data-numbers)
 
@@ -237,16 +233,17 @@ data-read : (bs : List ℕ) → isData (frameKind bs) ≡ true → readData bs �
 unfolding readData
 data-read bs h = rw h
 
-data-again : (k : ℕ) (bs cs : List ℕ) → isData k ≡ true → FrameOf k bs → length cs ≡ hexAt 4 2 bs → values (rPieces (hexAt 4 2 bs)) (drop 2 bs) ≡ dataNumbers cs
+data-again : (k : ℕ) (bs cs : List ℕ) → isData k ≡ true → frameKind bs ≡ k → length cs ≡ hexAt 4 2 bs → values (rPieces (hexAt 4 2 bs)) (drop 2 bs) ≡ dataNumbers cs
     → WritesBack k (dataRefusal k cs) (dataBytes k cs) bs
 unfolding dataRefusal dataBytes
 data-again k bs cs h f c v =
+    let low = data-range k h .0 in
     let high = data-range k h .1 in
     let few : length cs ≤ 65535 = omega (arith, hex-at-below 4 2 bs) in
-    let fits₀ : fit (rPieces (hexAt 4 2 bs)) (values (rPieces (hexAt 4 2 bs)) (drop 2 bs)) ≡ true = rw (le-leb k 3 high) at (numbers-fit k bs f) in
+    let fits₀ : fit (rPieces (hexAt 4 2 bs)) (values (rPieces (hexAt 4 2 bs)) (drop 2 bs)) ≡ true = rw (le-leb k 3 high) at (numbers-fit k bs low f) in
     let fits₁ : fit (rPieces (length cs)) (dataNumbers cs) ≡ true = rw (← v, c) fits₀ in
     let bytes : 33 ∷ identifier k ∷ written (rPieces (length cs)) (dataNumbers cs) ≡ frameOf k (hexAt 4 2 bs) (numbersIn k bs) = rw (← v, c, le-leb k 3 high) in
-    record { fits = rw (h, le-leb (length cs) 65535 few, fits₁); same = bytes ∙ written-again k bs f }
+    record { fits = rw (h, le-leb (length cs) 65535 few, fits₁); same = bytes ∙ written-again k bs low f }
 
 -- data that is read and written again is the same frame but for reserved bytes
 pub data-read-writes-back : (bs : List ℕ) → readData bs .refusal ≡ 0
@@ -256,6 +253,5 @@ data-read-writes-back bs h = rw (data-read bs (data-found bs h)) (go (data-range
     go : (1 ≤ frameKind bs) × (frameKind bs ≤ 3) → WritesBack (frameKind bs) (dataRefusal (frameKind bs) (take (hexAt 4 2 bs) (drop dataStart bs))) (dataBytes (frameKind bs) (take (hexAt 4 2 bs) (drop dataStart bs))) bs
     go (low, high) =
         let k = frameKind bs in
-        let f = kind-frame k bs (omega arith) refl in
-        let g = data-of k bs high f in
-        data-again k bs (take (hexAt 4 2 bs) (drop dataStart bs)) (data-found bs h) f (g .count) (g .numbers)
+        let g = data-of k bs low high refl in
+        data-again k bs (take (hexAt 4 2 bs) (drop dataStart bs)) (data-found bs h) refl (g .count) (g .numbers)

@@ -1,15 +1,15 @@
 -- Frames as rows of pieces behind `!` and an identifier, one row for each kind (paper 01, "SiRad").
-use mathlib.Core.Bool.{Bool, true, false, cond, _&&_}
+use mathlib.Core.Bool.{cond}
 use mathlib.Core.Path.{_≡_}
 use mathlib.Core.List.{List, [], _∷_, _++_}
 use Prim.Native.Nat.{ℕ}
-use lib.Dec.{eqb, leb}
+use lib.Dec.{eqb}
 use lib.ListN.{length, take, drop}
 use Rattle.digits.specs.Hex.{hexAt}
 use Rattle.form.specs.declared.Judgement.{Judgement}
 use Rattle.form.specs.declared.Judgement.the-variants.{Whole, Bad, Waiting}
 use Rattle.form.specs.Form.{judge}
-use Rattle.sirad.specs.Rows.{Piece, rPieces, tPieces, uPieces, ePieces}
+use Rattle.sirad.specs.Rows.{Piece, rowOf}
 use Rattle.sirad.specs.Sirad.{sirad}
 use Rattle.sirad.specs.Table.{identifier}
 use Rattle.sirad_fields.specs.Values.{values, written, blank}
@@ -26,11 +26,7 @@ kindOver size Waiting = 0
 unfoldable pub frameKind : List ℕ → ℕ
 frameKind bs = kindOver (length bs) (judge sirad 0 bs)
 
--- -- The row of each kind
-
--- column "Body" for a kind 1 to 6; n is the size field of kinds 1 to 3
-abbrev pub rowOf : ℕ → ℕ → List Piece
-rowOf kind n = cond (leb kind 3) (rPieces n) (cond (eqb kind 4) tPieces (cond (eqb kind 5) uPieces ePieces))
+-- -- Frames as rows
 
 -- the row of the frame that the bytes are; a size field is the four digits behind the identifier
 abbrev pub rowIn : ℕ → List ℕ → List Piece
