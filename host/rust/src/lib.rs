@@ -1,0 +1,36 @@
+//! A plain reader of the three radar wires, written from paper 01 ("What gets built and its exact rules") and the
+//! makers' documents 000, 001, 003 and 004 alone. It is slow where slow is clearer, and it exists to be compared with.
+//!
+//! | Module | What it holds | Paper 01 |
+//! |---|---|---|
+//! | [`refusal`] | the refusal numbers and the size limits | "Refusal numbers" |
+//! | [`judgement`] | whole, bad or waiting, for either dialect | "Judging a place" |
+//! | [`sirad`], [`mmwave`] | the judgement of each dialect | "The three wires" |
+//! | [`reading`] | the open and the closed reading, the choice of two lines | "Two readings" |
+//! | [`numbers`] | dB, phase, accuracy, millimetres | "Numbers" |
+//! | [`sirad_fields`], [`packet`] | what a whole frame holds, and SiRad writing | "Fields" |
+//! | [`demorad`] | command words, both ways | "DemoRad" |
+//! | [`listing`] | what the listing programs print | "The listing" |
+//!
+//! Beside the reader: [`generate`] makes captures from a seed, [`abi`] has the gateway's answers in their C form,
+//! [`compare`] runs any subject with that face against the reader, and `gateway` (there only if the library is linked)
+//! is the library as such a subject.
+
+#![deny(unsafe_code)]
+#![warn(missing_docs)]
+
+pub mod abi;
+pub mod compare;
+pub mod demorad;
+#[cfg(gateway_linked)]
+pub mod gateway;
+pub mod generate;
+pub mod judgement;
+pub mod listing;
+pub mod mmwave;
+pub mod numbers;
+pub mod packet;
+pub mod reading;
+pub mod refusal;
+pub mod sirad;
+pub mod sirad_fields;

@@ -1,0 +1,429 @@
+//! The judgement of mmWave packets (paper 01, "The three wires" and "Judging a place"; document 004).
+//!
+//! "Numbers are least significant byte first." The magic is judged byte by byte; "a four-byte field is judged when its
+//! fourth byte is there, and until then it waits".
+
+use crate::judgement::{
+    Judgement, ILLEGAL_PAYLOAD_LENGTH, ILLEGAL_RECORD_COUNT, ILLEGAL_TOTAL_LENGTH, TYPE_CANNOT_FIT, WRONG_MAGIC,
+};
+
+/// Kind 16: a packet.
+pub const PACKET: u32 = 16;
+/// The eight bytes that start each packet.
+pub const MAGIC: [u8; 8] = [2, 1, 4, 3, 6, 5, 8, 7];
+/// Where the version stands.
+pub const VERSION: usize = 8;
+/// Where the total length L stands.
+pub const TOTAL_LENGTH: usize = 12;
+/// Where the platform stands.
+pub const PLATFORM: usize = 16;
+/// Where the frame number stands.
+pub const FRAME_NUMBER: usize = 20;
+/// Where the time in CPU cycles stands.
+pub const TIME: usize = 24;
+/// Where the object count N stands.
+pub const OBJECT_COUNT: usize = 28;
+/// Where the record count K stands.
+pub const RECORD_COUNT: usize = 32;
+/// Where the subframe number stands.
+pub const SUBFRAME: usize = 36;
+/// The header's bytes: its fields add up to 40, and "40 decides" over 004's "44 Bytes".
+pub const HEADER_SIZE: usize = 40;
+/// A record's bytes in front of its payload: type (4) and payload length (4).
+pub const RECORD_HEADER: u64 = 8;
+/// L is a multiple of this.
+pub const PADDING: u64 = 32;
+/// The least L.
+pub const MIN_TOTAL: u64 = 64;
+/// The greatest L.
+pub const MAX_TOTAL: u64 = 32_768;
+/// The greatest K.
+pub const MAX_RECORDS: u64 = 32;
+
+/// The type of the record that holds the detected points.
+pub const POINTS: u32 = 1;
+/// The bytes of a point.
+pub const POINT_SIZE: u64 = 16;
+
+/// Judges the packet at the front of `bytes`.
+pub fn judge(bytes: &[u8]) -> Judgement {
+    match packet(bytes) {
+        Ok(length) => Judgement::Whole { kind: PACKET, length },
+        Err(stopped) => stopped,
+    }
+}
+
+/// The checks in byte order; a check that can't go on answers with the judgement.
+fn packet(bytes: &[u8]) -> Result<usize, Judgement> {
+    magic(bytes)?;
+    field(bytes, VERSION)?;
+    let total = field(bytes, TOTAL_LENGTH)?;
+    check(is_legal_total(total), ILLEGAL_TOTAL_LENGTH)?;
+    field(bytes, PLATFORM)?;
+    field(bytes, FRAME_NUMBER)?;
+    field(bytes, TIME)?;
+    let objects = field(bytes, OBJECT_COUNT)?;
+    let records = field(bytes, RECORD_COUNT)?;
+    check(is_legal_count(records, total), ILLEGAL_RECORD_COUNT)?;
+    field(bytes, SUBFRAME)?;
+    let mut place = HEADER_SIZE as u64;
+    for behind in (0..records).rev() {
+        let legal = legal_lengths(field(bytes, place as usize)? as u32, objects);
+        check(some_length_fits(legal, place, behind, total), TYPE_CANNOT_FIT)?;
+        let length = field(bytes, place as usize + 4)?;
+        let end = place + RECORD_HEADER + length;
+        check(legal.allow(length) && can_end(end, behind, total), ILLEGAL_PAYLOAD_LENGTH)?;
+        place = end;
+    }
+    // The padding is free, but it has to be there.
+    if (bytes.len() as u64) < total {
+        return Err(Judgement::Waiting);
+    }
+    Ok(total as usize)
+}
+
+fn check(holds: bool, reason: u32) -> Result<(), Judgement> {
+    if holds {
+        Ok(())
+    } else {
+        Err(Judgement::Bad { reason })
+    }
+}
+
+fn magic(bytes: &[u8]) -> Result<(), Judgement> {
+    for (place, expected) in MAGIC.iter().enumerate() {
+        let byte = bytes.get(place).ok_or(Judgement::Waiting)?;
+        check(byte == expected, WRONG_MAGIC)?;
+    }
+    Ok(())
+}
+
+/// The four-byte field at `place`; waits unless all its bytes are there.
+fn field(bytes: &[u8], place: usize) -> Result<u64, Judgement> {
+    match bytes.get(place..place + 4) {
+        Some(field) => Ok(u64::from(number(field))),
+        None => Err(Judgement::Waiting),
+    }
+}
+
+/// A number, least significant byte first.
+pub fn number(bytes: &[u8]) -> u32 {
+    bytes.iter().rev().fold(0, |value, &byte| value << 8 | u32::from(byte))
+}
+
+/// "L is a multiple of 32 from 64 to 32,768."
+pub fn is_legal_total(total: u64) -> bool {
+    total.is_multiple_of(PADDING) && (MIN_TOTAL..=MAX_TOTAL).contains(&total)
+}
+
+/// Reason 22's rule, the other way round: K is at most 32, the K record headers have room, and K = 0 has L = 64.
+pub fn is_legal_count(records: u64, total: u64) -> bool {
+    records <= MAX_RECORDS
+        && RECORD_HEADER * records <= total - HEADER_SIZE as u64
+        && (records > 0 || total == MIN_TOTAL)
+}
+
+/// The payload lengths that are legal for a record's type, given the object count.
+#[derive(Clone, Copy, Debug, PartialEq, Eq)]
+pub enum Lengths {
+    /// None at all: types 1 and 7 without objects.
+    None,
+    /// This one alone.
+    Only(u64),
+    /// All multiples of this, 0 among them.
+    MultiplesOf(u64),
+}
+
+impl Lengths {
+    /// Whether `length` is among them.
+    pub fn allow(self, length: u64) -> bool {
+        match self {
+            Lengths::None => false,
+            Lengths::Only(only) => length == only,
+            Lengths::MultiplesOf(step) => length.is_multiple_of(step),
+        }
+    }
+
+    /// The greatest of them that is at most `room`.
+    pub fn greatest_within(self, room: u64) -> Option<u64> {
+        match self {
+            Lengths::None => None,
+            Lengths::Only(only) => (only <= room).then_some(only),
+            Lengths::MultiplesOf(step) => Some(room - room % step),
+        }
+    }
+}
+
+/// "Type 1 is 16N and N is not 0; type 7 is 4N and N is not 0; 2, 3, 5 even; 4, 8 a multiple of 4; 6 is 24; 9 is 28; all
+/// other types free."
+pub fn legal_lengths(record_type: u32, objects: u64) -> Lengths {
+    match record_type {
+        1 | 7 if objects == 0 => Lengths::None,
+        1 => Lengths::Only(16 * objects),
+        7 => Lengths::Only(4 * objects),
+        2 | 3 | 5 => Lengths::MultiplesOf(2),
+        4 | 8 => Lengths::MultiplesOf(4),
+        6 => Lengths::Only(24),
+        9 => Lengths::Only(28),
+        _ => Lengths::MultiplesOf(1),
+    }
+}
+
+/// Whether the records can end so that L fits, if one ends at `end` and `behind` more follow: "L is the smallest multiple
+/// of 32 not below e". The records that follow have any type, so each adds 8 bytes or any number more.
+pub fn can_end(end: u64, behind: u64, total: u64) -> bool {
+    if behind == 0 {
+        end <= total && total < end + PADDING
+    } else {
+        end + RECORD_HEADER * behind <= total
+    }
+}
+
+/// Whether some legal payload length of a record at `place` lets the records end so that L fits. The greatest that
+/// leaves room for the record headers behind it does so if any does.
+pub fn some_length_fits(legal: Lengths, place: u64, behind: u64, total: u64) -> bool {
+    let Some(room) = total.checked_sub(place + RECORD_HEADER * (1 + behind)) else {
+        return false;
+    };
+    match legal.greatest_within(room) {
+        Some(length) => can_end(place + RECORD_HEADER + length, behind, total),
+        None => false,
+    }
+}
+
+#[cfg(test)]
+mod tests {
+    use super::*;
+
+    fn header(total: u32, objects: u32, records: u32) -> Vec<u8> {
+        let mut bytes = MAGIC.to_vec();
+        for value in [0x0306_0000, total, 0xA6843, 7, 99, objects, records, 0] {
+            bytes.extend_from_slice(&u32::to_le_bytes(value));
+        }
+        bytes
+    }
+
+    fn with(mut bytes: Vec<u8>, fields: &[u32]) -> Vec<u8> {
+        for field in fields {
+            bytes.extend_from_slice(&field.to_le_bytes());
+        }
+        bytes
+    }
+
+    fn padded(mut bytes: Vec<u8>, length: usize) -> Vec<u8> {
+        bytes.resize(length, 0xEE);
+        bytes
+    }
+
+    fn bad(reason: u32) -> Judgement {
+        Judgement::Bad { reason }
+    }
+
+    fn whole(length: usize) -> Judgement {
+        Judgement::Whole { kind: PACKET, length }
+    }
+
+    #[test]
+    fn the_header_has_40_bytes() {
+        assert_eq!(header(64, 0, 0).len(), HEADER_SIZE);
+    }
+
+    #[test]
+    fn the_magic_is_judged_byte_by_byte() {
+        for end in 0..8 {
+            assert_eq!(judge(&MAGIC[..end]), Judgement::Waiting);
+            let mut wrong = MAGIC[..=end].to_vec();
+            wrong[end] ^= 1;
+            assert_eq!(judge(&wrong), bad(20));
+        }
+        assert_eq!(judge(&MAGIC), Judgement::Waiting);
+    }
+
+    #[test]
+    fn a_field_waits_for_its_fourth_byte() {
+        let illegal = header(u32::MAX, u32::MAX, u32::MAX);
+        for end in 8..16 {
+            assert_eq!(judge(&illegal[..end]), Judgement::Waiting);
+        }
+        assert_eq!(judge(&illegal[..16]), bad(21));
+        let illegal = header(64, u32::MAX, u32::MAX);
+        for end in 8..36 {
+            assert_eq!(judge(&illegal[..end]), Judgement::Waiting);
+        }
+        assert_eq!(judge(&illegal[..36]), bad(22));
+        let illegal = with(header(64, 0, 1), &[6, u32::MAX]);
+        for end in 8..44 {
+            assert_eq!(judge(&illegal[..end]), Judgement::Waiting);
+        }
+        assert_eq!(judge(&illegal[..44]), bad(23));
+        let illegal = with(header(64, 0, 1), &[10, u32::MAX]);
+        for end in 8..48 {
+            assert_eq!(judge(&illegal[..end]), Judgement::Waiting);
+        }
+        assert_eq!(judge(&illegal[..48]), bad(24));
+    }
+
+    #[test]
+    fn total_lengths_at_their_limits() {
+        for total in [0, 1, 31, 32, 63, 65, 80, 32_767, 32_769, 32_800, 0x8000_0040, u32::MAX - 31] {
+            assert_eq!(judge(&header(total, 0, 0)), bad(21), "{total}");
+        }
+        for total in [64, 96, 32_736, 32_768] {
+            assert_eq!(judge(&header(total, 0, 1)), Judgement::Waiting, "{total}");
+        }
+    }
+
+    #[test]
+    fn record_counts_at_their_limits() {
+        for (total, records) in [(64, 4), (64, 33), (96, 0), (96, 8), (32_768, 33), (32_768, 0), (64, 0x2000_0001)] {
+            assert_eq!(judge(&header(total, 0, records)), bad(22), "{total} {records}");
+        }
+        for (total, records) in [(64, 0), (64, 3), (96, 7), (288, 31), (320, 32), (32_768, 32), (32_768, 1)] {
+            assert_eq!(judge(&header(total, 0, records)), Judgement::Waiting, "{total} {records}");
+        }
+    }
+
+    #[test]
+    fn products_do_not_wrap() {
+        // 16N and 4N are 0 and 16 in 32 bits here.
+        for objects in [0x1000_0000, 0x1000_0001, 0x4000_0000] {
+            assert_eq!(judge(&with(header(64, objects, 1), &[1])), bad(23));
+        }
+        assert_eq!(judge(&with(header(64, 0x4000_0000, 1), &[7])), bad(23));
+        assert_eq!(judge(&with(header(64, 0x4000_0004, 1), &[7])), bad(23));
+        for length in [0xFFFF_FFF8, 0xFFFF_FFFF, 0xFFFF_FFD0] {
+            assert_eq!(judge(&with(header(64, 0, 1), &[10, length])), bad(24));
+        }
+    }
+
+    #[test]
+    fn each_type_has_its_lengths() {
+        let fits = |record_type: u32, objects: u32, total: u32, length: u32| {
+            let bytes = with(header(total, objects, 1), &[record_type, length]);
+            judge(&padded(bytes, total as usize))
+        };
+        assert_eq!(fits(1, 1, 64, 16), whole(64));
+        assert_eq!(fits(1, 1, 64, 15), bad(24));
+        assert_eq!(fits(1, 0, 64, 0), bad(23));
+        assert_eq!(fits(1, 2, 64, 32), bad(23));
+        assert_eq!(fits(1, 2, 96, 32), whole(96));
+        assert_eq!(fits(7, 0, 64, 0), bad(23));
+        assert_eq!(fits(7, 1, 64, 4), whole(64));
+        assert_eq!(fits(7, 4, 64, 16), whole(64));
+        assert_eq!(fits(7, 5, 64, 20), bad(23));
+        for even in [2, 3, 5] {
+            assert_eq!(fits(even, 0, 64, 14), whole(64));
+            assert_eq!(fits(even, 0, 64, 15), bad(24));
+        }
+        for by_four in [4, 8] {
+            assert_eq!(fits(by_four, 0, 64, 12), whole(64));
+            assert_eq!(fits(by_four, 0, 64, 14), bad(24));
+        }
+        assert_eq!(fits(9, 0, 64, 28), bad(23));
+        assert_eq!(fits(9, 0, 96, 28), whole(96));
+        assert_eq!(fits(9, 0, 96, 24), bad(24));
+        for free in [0, 10, 11, 255, 256, 1 << 24, u32::MAX] {
+            assert_eq!(fits(free, 0, 64, 13), whole(64));
+        }
+    }
+
+    #[test]
+    fn the_end_is_within_the_last_32_bytes() {
+        // L 96, one free record: e = 48 + length has to be 65 to 96.
+        for length in 0..=60 {
+            let bytes = padded(with(header(96, 0, 1), &[10, length]), 96);
+            let expected = if (17..=48).contains(&length) { whole(96) } else { bad(24) };
+            assert_eq!(judge(&bytes), expected, "{length}");
+        }
+    }
+
+    #[test]
+    fn a_type_is_judged_with_the_records_behind_it() {
+        // L 96, K 2: type 9 takes 36 bytes and leaves 20 for the second record; type 6 twice takes 64 of 56 bytes.
+        assert_eq!(judge(&with(header(96, 0, 2), &[9])), Judgement::Waiting);
+        assert_eq!(judge(&with(header(96, 0, 2), &[6])), Judgement::Waiting);
+        assert_eq!(judge(&with(header(96, 0, 3), &[9])), Judgement::Waiting);
+        assert_eq!(judge(&with(header(96, 0, 4), &[9])), bad(23));
+        let first = padded(with(header(96, 0, 2), &[6, 24]), 72);
+        assert_eq!(judge(&with(first.clone(), &[6])), bad(23));
+        assert_eq!(judge(&with(first.clone(), &[2])), Judgement::Waiting);
+        assert_eq!(judge(&padded(with(first, &[2, 14]), 96)), whole(96));
+    }
+
+    #[test]
+    fn a_payload_waits_until_the_packet_is_there() {
+        let packet = padded(with(header(64, 0, 1), &[10, 16]), 64);
+        for end in 48..64 {
+            assert_eq!(judge(&packet[..end]), Judgement::Waiting);
+        }
+        assert_eq!(judge(&packet), whole(64));
+        let with_more = padded(packet, 200);
+        assert_eq!(judge(&with_more), whole(64));
+    }
+
+    #[test]
+    fn the_greatest_packet() {
+        let packet = padded(with(header(32_768, 0, 1), &[10, 32_720]), 32_768);
+        assert_eq!(judge(&packet), whole(32_768));
+        let mut records = header(320, 0, 32);
+        for _ in 0..32 {
+            records = with(records, &[10, 0]);
+        }
+        assert_eq!(judge(&padded(records, 320)), whole(320));
+    }
+
+    /// Reason 23's sentence taken at its word: try every payload length, and behind it every type with every length.
+    fn fits_by_trying(record_type: u32, objects: u64, place: u64, behind: u64, total: u64) -> bool {
+        (0..=total).any(|length| {
+            legal_lengths(record_type, objects).allow(length)
+                && ends_by_trying(objects, place + 8 + length, behind, total)
+        })
+    }
+
+    fn ends_by_trying(objects: u64, end: u64, behind: u64, total: u64) -> bool {
+        if end > total {
+            return false;
+        }
+        if behind == 0 {
+            // The smallest multiple of 32 not below the end, by counting up.
+            return (end..).find(|multiple| multiple % 32 == 0) == Some(total);
+        }
+        (0..=10).any(|record_type| fits_by_trying(record_type, objects, end, behind - 1, total))
+    }
+
+    #[test]
+    fn the_fit_is_what_trying_all_lengths_finds() {
+        for (total, most_behind) in [(64u64, 3), (96, 3), (128, 2)] {
+            for objects in [0u64, 1, 2, 3, 5, 0x1000_0000] {
+                for behind in 0..=most_behind {
+                    for place in 40..=total {
+                        for record_type in 0..=10 {
+                            let legal = legal_lengths(record_type, objects);
+                            assert_eq!(
+                                some_length_fits(legal, place, behind, total),
+                                fits_by_trying(record_type, objects, place, behind, total),
+                                "type {record_type}, N {objects}, place {place}, {behind} behind, L {total}"
+                            );
+                        }
+                    }
+                }
+            }
+        }
+    }
+
+    #[test]
+    fn the_legal_lengths_are_those_of_the_paper() {
+        for objects in 0..40u64 {
+            for length in 0..700u64 {
+                let allowed = |record_type| legal_lengths(record_type, objects).allow(length);
+                assert_eq!(allowed(1), objects != 0 && length == 16 * objects);
+                assert_eq!(allowed(7), objects != 0 && length == 4 * objects);
+                assert_eq!([2, 3, 5].map(allowed), [length % 2 == 0; 3]);
+                assert_eq!([4, 8].map(allowed), [length % 4 == 0; 2]);
+                assert_eq!(allowed(6), length == 24);
+                assert_eq!(allowed(9), length == 28);
+                assert_eq!([0, 10, 77, u32::MAX].map(allowed), [true; 4]);
+            }
+        }
+    }
+}

@@ -1,0 +1,578 @@
+//! The gateway library against the reader, and the comparison against readers that are wrong on purpose.
+//!
+//! The library is compared if `VQ_LIB_DIR` names the directory that holds `libgateway.a`. `VQ_SEED` gives another first
+//! seed than the usual one.
+
+use radar_reference::abi::{Judgement, Millimetres, Reading, Reference, Subject, BAD, WAITING, WHOLE};
+use radar_reference::compare::{
+    check_capture, compare_judgements, compare_millimetres, compare_readings, compare_splits, Difference, Tally,
+};
+use radar_reference::reading::ROW;
+
+const JUDGEMENTS: u64 = 1_000_000;
+const READINGS: u64 = 12_000;
+const CONVERSIONS: u64 = 1_000_000;
+const SPLIT_CAPTURES: u64 = 600;
+
+fn first_seed() -> u64 {
+    std::env::var("VQ_SEED").map_or(1, |seed| seed.parse().expect("VQ_SEED is a number"))
+}
+
+/// Stops the test with the seed and the bytes.
+fn agreed<T>(outcome: Result<T, Difference>) -> T {
+    outcome.unwrap_or_else(|difference| panic!("{difference}"))
+}
+
+/// Every kind and reason came often enough to count, and every refusal came.
+fn assert_all_judgements_seen(tally: &Tally) {
+    assert!(tally.total >= JUDGEMENTS);
+    for answer in ["whole 1", "whole 2", "whole 3", "whole 4", "whole 5", "whole 6", "whole 16", "waiting"] {
+        assert!(tally.of(answer) >= 300, "{answer} in {tally}");
+    }
+    for reason in [10, 11, 12, 13, 14, 20, 21, 22, 23, 24] {
+        assert!(tally.of(&format!("bad {reason}")) >= 300, "{reason} in {tally}");
+    }
+    for refusal in 1..=3 {
+        assert!(tally.of(&format!("refused {refusal}")) >= 10, "{refusal} in {tally}");
+    }
+}
+
+fn assert_all_readings_seen(tally: &Tally) {
+    assert!(tally.total >= READINGS);
+    for answer in ["open, state 0", "open, state 1", "closed, state 1", "closed, state 2"] {
+        assert!(tally.of(answer) >= 500, "{answer} in {tally}");
+    }
+    for answer in ["open, refused 1", "open, refused 3", "closed, refused 1", "closed, refused 3"] {
+        assert!(tally.of(answer) >= 5, "{answer} in {tally}");
+    }
+}
+
+#[cfg(gateway_linked)]
+mod library {
+    use super::*;
+    use radar_reference::gateway::Gateway;
+
+    #[test]
+    fn judgements_agree() {
+        let tally = agreed(compare_judgements(&Gateway, first_seed(), JUDGEMENTS));
+        println!("judgements: {tally}");
+        assert_all_judgements_seen(&tally);
+    }
+
+    #[test]
+    fn readings_agree() {
+        let tally = agreed(compare_readings(&Gateway, first_seed(), READINGS));
+        println!("readings: {tally}");
+        assert_all_readings_seen(&tally);
+    }
+
+    #[test]
+    fn millimetres_agree() {
+        let conversions = agreed(compare_millimetres(&Gateway, first_seed(), CONVERSIONS));
+        println!("conversions: {conversions}");
+    }
+
+    #[test]
+    fn demand_3_holds_at_every_split() {
+        let splits = agreed(compare_splits(&Gateway, first_seed(), SPLIT_CAPTURES));
+        println!("splits: {splits}");
+    }
+}
+
+// The runs themselves, on the reader and on readers that are wrong on purpose.
+
+#[test]
+fn the_judgements_that_are_compared_cover_all_answers() {
+    let tally = agreed(compare_judgements(&Reference, first_seed(), JUDGEMENTS));
+    println!("judgements: {tally}");
+    assert_all_judgements_seen(&tally);
+}
+
+#[test]
+fn the_readings_that_are_compared_cover_all_answers() {
+    let tally = agreed(compare_readings(&Reference, first_seed(), READINGS));
+    println!("readings: {tally}");
+    assert_all_readings_seen(&tally);
+}
+
+#[test]
+fn the_splits_that_are_compared_are_many() {
+    let splits = agreed(compare_splits(&Reference, first_seed(), SPLIT_CAPTURES));
+    println!("splits: {splits}");
+    assert!(splits >= 10_000);
+}
+
+/// The reader with one function replaced.
+#[derive(Clone, Copy)]
+enum Wrong {
+    Judge(fn(u32, &[u8]) -> Judgement),
+    JudgeAt(fn(u32, &[u8], usize) -> Judgement),
+    Millimetres(fn(u32) -> Millimetres),
+    Read(fn(bool, u32, &[u8], &mut [u32]) -> Reading),
+}
+
+impl Subject for Wrong {
+    fn judge(&self, dialect: u32, bytes: &[u8], place: usize) -> Judgement {
+        let right = Reference.judge(dialect, bytes, place);
+        match self {
+            Wrong::Judge(judge) if right.refusal == 0 => judge(dialect, &bytes[place..]),
+            Wrong::JudgeAt(judge) => judge(dialect, bytes, place),
+            _ => right,
+        }
+    }
+
+    fn millimetres(&self, bits: u32) -> Millimetres {
+        match self {
+            Wrong::Millimetres(millimetres) => millimetres(bits),
+            _ => Reference.millimetres(bits),
+        }
+    }
+
+    fn open_reading(&self, dialect: u32, bytes: &[u8], table: &mut [u32]) -> Reading {
+        match self {
+            Wrong::Read(read) => read(false, dialect, bytes, table),
+            _ => Reference.open_reading(dialect, bytes, table),
+        }
+    }
+
+    fn closed_reading(&self, dialect: u32, bytes: &[u8], table: &mut [u32]) -> Reading {
+        match self {
+            Wrong::Read(read) => read(true, dialect, bytes, table),
+            _ => Reference.closed_reading(dialect, bytes, table),
+        }
+    }
+}
+
+fn right(dialect: u32, bytes: &[u8]) -> Judgement {
+    Reference.judge(dialect, bytes, 0)
+}
+
+fn bad(reason: u32) -> Judgement {
+    Judgement { state: BAD, reason, ..Judgement::default() }
+}
+
+fn waiting() -> Judgement {
+    Judgement { state: WAITING, ..Judgement::default() }
+}
+
+fn field(bytes: &[u8], place: usize) -> Option<u32> {
+    Some(u32::from_le_bytes(bytes.get(place..place + 4)?.try_into().ok()?))
+}
+
+/// The judgement of SiRad bytes that are changed first.
+fn sirad_with(dialect: u32, bytes: &[u8], change: fn(usize, u8) -> u8) -> Judgement {
+    if dialect != 0 {
+        return right(dialect, bytes);
+    }
+    let changed: Vec<u8> = bytes.iter().enumerate().map(|(place, &byte)| change(place, byte)).collect();
+    right(dialect, &changed)
+}
+
+/// The judgement of mmWave bytes with another number in one field.
+fn field_with(dialect: u32, bytes: &[u8], place: usize, change: fn(u32) -> u32) -> Judgement {
+    let Some(number) = field(bytes, place).filter(|_| dialect == 1) else {
+        return right(dialect, bytes);
+    };
+    let mut changed = bytes.to_vec();
+    changed[place..place + 4].copy_from_slice(&change(number).to_le_bytes());
+    right(dialect, &changed)
+}
+
+const WRONG_JUDGEMENTS: &[(&str, Wrong)] = &[
+    ("all places wait", Wrong::Judge(|_, _| waiting())),
+    ("all places are bad", Wrong::Judge(|dialect, _| bad(10 + 10 * dialect))),
+    ("lower-case hex is read", Wrong::Judge(|d, b| sirad_with(d, b, |_, byte| byte.to_ascii_uppercase()))),
+    ("255 is a character", Wrong::Judge(|d, b| sirad_with(d, b, |_, byte| byte.min(254)))),
+    (
+        "33 is a character",
+        Wrong::Judge(|d, b| sirad_with(d, b, |place, byte| if place > 1 && byte == b'!' { b'"' } else { byte })),
+    ),
+    ("34 is no character", Wrong::Judge(|d, b| sirad_with(d, b, |_, byte| if byte == 34 { 33 } else { byte }))),
+    ("254 is no character", Wrong::Judge(|d, b| sirad_with(d, b, |_, byte| if byte == 254 { 255 } else { byte }))),
+    (
+        "a line feed stands for the carriage return",
+        Wrong::Judge(|d, b| sirad_with(d, b, |_, byte| if byte == 10 { 13 } else { byte })),
+    ),
+    (
+        "P and C are one kind",
+        Wrong::Judge(|d, b| {
+            let right = right(d, b);
+            Judgement { kind: if right.kind == 3 { 2 } else { right.kind }, ..right }
+        }),
+    ),
+    (
+        "sizes end at 4096",
+        Wrong::Judge(|d, b| match right(d, b) {
+            right if right.kind < 4 && right.length > 4112 => bad(13),
+            right => right,
+        }),
+    ),
+    (
+        "not a character is told as not a hex digit",
+        Wrong::Judge(|d, b| match right(d, b) {
+            right if right.reason == 13 => bad(12),
+            right => right,
+        }),
+    ),
+    (
+        "the last byte of a frame is not waited for",
+        Wrong::Judge(|d, b| {
+            let longer = [b, &[10]].concat();
+            match (right(d, b), right(d, &longer)) {
+                (now, then) if now.state == WAITING && then.state == WHOLE => then,
+                (now, _) => now,
+            }
+        }),
+    ),
+    (
+        "a byte behind the frame is waited for",
+        Wrong::Judge(|d, b| match right(d, b) {
+            right if right.state == WHOLE && right.length == b.len() as u64 => waiting(),
+            right => right,
+        }),
+    ),
+    (
+        "the header has 44 bytes",
+        Wrong::Judge(|d, b| match d {
+            1 if b.len() > 44 => right(d, &[&b[..40], &b[44..]].concat()),
+            _ => right(d, b),
+        }),
+    ),
+    (
+        "a type is judged by its length field only",
+        Wrong::Judge(|d, b| {
+            let right = right(d, b);
+            let seen = (0..=b.len()).find(|&end| Reference.judge(d, &b[..end], 0).reason == 23);
+            match seen {
+                Some(end) if right.reason == 23 && b.len() < end + 4 => waiting(),
+                Some(_) if right.reason == 23 => bad(24),
+                _ => right,
+            }
+        }),
+    ),
+    (
+        "the magic waits for all of its bytes",
+        Wrong::Judge(|d, b| match right(d, b) {
+            right if right.reason == 20 && b.len() < 8 => waiting(),
+            right => right,
+        }),
+    ),
+    (
+        "a total length is judged by its first byte",
+        Wrong::Judge(|d, b| match right(d, b) {
+            right if d == 1 && right.state == WAITING && (13..16).contains(&b.len()) && b[12] % 32 != 0 => bad(21),
+            right => right,
+        }),
+    ),
+    ("16N wraps around", Wrong::Judge(|d, b| field_with(d, b, 28, |objects| objects & 0x0FFF_FFFF))),
+    ("4N wraps around", Wrong::Judge(|d, b| field_with(d, b, 28, |objects| objects & 0x3FFF_FFFF))),
+    ("8K wraps around", Wrong::Judge(|d, b| field_with(d, b, 32, |count| count & 0x1FFF_FFFF))),
+    (
+        "a total of 32768 is too much",
+        Wrong::Judge(|d, b| match field(b, 12) {
+            Some(32_768) if d == 1 && right(d, b).reason != 20 => bad(21),
+            _ => right(d, b),
+        }),
+    ),
+    (
+        "32 records are too many",
+        Wrong::Judge(|d, b| match (right(d, b), field(b, 32)) {
+            (right, Some(32)) if d == 1 && ![20, 21].contains(&right.reason) => bad(22),
+            (right, _) => right,
+        }),
+    ),
+    (
+        "no records in a long packet are fine",
+        Wrong::Judge(|d, b| match (right(d, b), field(b, 32)) {
+            (right, Some(0)) if right.reason == 22 => waiting(),
+            (right, _) => right,
+        }),
+    ),
+    (
+        "points without objects are fine",
+        Wrong::Judge(|d, b| match (right(d, b), field(b, 28)) {
+            (right, Some(0)) if right.reason == 23 => waiting(),
+            (right, _) => right,
+        }),
+    ),
+    ("type 7 is the statistics", Wrong::Judge(|d, b| field_with(d, b, 40, |kind| if kind == 7 { 6 } else { kind }))),
+    ("type 5 is free", Wrong::Judge(|d, b| field_with(d, b, 40, |kind| if kind == 5 { 10 } else { kind }))),
+    ("type 8 is free", Wrong::Judge(|d, b| field_with(d, b, 40, |kind| if kind == 8 { 10 } else { kind }))),
+    (
+        "the records end before the last byte",
+        Wrong::Judge(|d, b| {
+            let right = right(d, b);
+            let total = field(b, 12).unwrap_or(0);
+            match (field(b, 32), field(b, 44)) {
+                (Some(1), Some(length)) if right.state == WHOLE && d == 1 && 48 + length == total => bad(24),
+                _ => right,
+            }
+        }),
+    ),
+    (
+        "padding of 32 bytes is fine",
+        Wrong::Judge(|d, b| {
+            let right = right(d, b);
+            match (field(b, 12), field(b, 32), field(b, 44)) {
+                (Some(total), Some(1), Some(length))
+                    if right.reason == 24 && u64::from(length) + 80 == u64::from(total) =>
+                {
+                    waiting()
+                }
+                _ => right,
+            }
+        }),
+    ),
+    (
+        "the end is refused",
+        Wrong::JudgeAt(|d, b, place| match Reference.judge(d, b, place) {
+            answer if answer.refusal == 0 && place == b.len() => Judgement { refusal: 2, ..Judgement::default() },
+            answer => answer,
+        }),
+    ),
+    (
+        "2 goes before 3",
+        Wrong::JudgeAt(|d, b, place| match Reference.judge(d, b, place) {
+            answer if answer.refusal == 3 && place > b.len() => Judgement { refusal: 2, ..answer },
+            answer => answer,
+        }),
+    ),
+    (
+        "3 goes before 1",
+        Wrong::JudgeAt(|d, b, place| match Reference.judge(d, b, place) {
+            answer if answer.refusal == 1 && b.len() > 1_048_576 => Judgement { refusal: 3, ..answer },
+            answer => answer,
+        }),
+    ),
+    (
+        "a refusal has a state",
+        Wrong::JudgeAt(|d, b, place| match Reference.judge(d, b, place) {
+            answer if answer.refusal != 0 => Judgement { state: BAD, ..answer },
+            answer => answer,
+        }),
+    ),
+];
+
+#[test]
+fn wrong_judgements_are_found() {
+    for (name, wrong) in WRONG_JUDGEMENTS {
+        let found = compare_judgements(wrong, first_seed(), JUDGEMENTS);
+        assert!(found.is_err(), "not found: {name}");
+    }
+}
+
+#[test]
+fn a_difference_tells_its_seed_and_bytes_and_comes_again() {
+    let (_, wrong) = WRONG_JUDGEMENTS[2];
+    let difference = compare_judgements(&wrong, first_seed(), JUDGEMENTS).unwrap_err();
+    let told = difference.to_string();
+    assert!(told.contains("seed ") && told.contains("cargo run --bin capture"), "{told}");
+    assert!(told.contains(&format!("{} bytes: {:02x}", difference.bytes.len(), difference.bytes[0])), "{told}");
+    assert!(check_capture(&wrong, 0, &difference.bytes).is_err());
+    assert!(check_capture(&Reference, 0, &difference.bytes).is_ok());
+}
+
+/// Rounds as told, with the right refusals.
+fn rounded(bits: u32, round: fn(f64) -> f64) -> Millimetres {
+    match Reference.millimetres(bits) {
+        right if right.refusal != 0 => right,
+        _ => Millimetres { refusal: 0, value: round(f64::from(f32::from_bits(bits)) * 1000.0) as i32 },
+    }
+}
+
+const WRONG_MILLIMETRES: &[(&str, Wrong)] = &[
+    ("halves to even", Wrong::Millimetres(|bits| rounded(bits, f64::round_ties_even))),
+    ("halves up", Wrong::Millimetres(|bits| rounded(bits, |value| (value + 0.5).floor()))),
+    (
+        "halves towards zero",
+        Wrong::Millimetres(|bits| rounded(bits, |value| (value.abs() - 0.5).ceil().copysign(value))),
+    ),
+    ("truncated", Wrong::Millimetres(|bits| rounded(bits, f64::trunc))),
+    (
+        "multiplied as a short float",
+        Wrong::Millimetres(|bits| rounded(bits, |value| f64::from(((value / 1000.0) as f32 * 1000.0).round()))),
+    ),
+    (
+        "the limit is refused",
+        Wrong::Millimetres(|bits| match Reference.millimetres(bits) {
+            right if right.value.abs() == 1_000_000 => Millimetres { refusal: 31, value: 0 },
+            right => right,
+        }),
+    ),
+    (
+        "the limit is on the rounded value",
+        Wrong::Millimetres(|bits| match (Reference.millimetres(bits), f32::from_bits(bits)) {
+            (right, value) if right.refusal == 31 && value.abs() < 1000.0004 => {
+                Millimetres { refusal: 0, value: 1_000_000_f32.copysign(value) as i32 }
+            }
+            (right, _) => right,
+        }),
+    ),
+    (
+        "infinite is too far",
+        Wrong::Millimetres(|bits| match Reference.millimetres(bits) {
+            right if f32::from_bits(bits).is_infinite() => Millimetres { refusal: 31, ..right },
+            right => right,
+        }),
+    ),
+    (
+        "the sign is lost",
+        Wrong::Millimetres(|bits| {
+            let right = Reference.millimetres(bits);
+            Millimetres { value: right.value.abs(), ..right }
+        }),
+    ),
+    (
+        "short numbers are refused",
+        Wrong::Millimetres(|bits| match f32::from_bits(bits) {
+            value if value.is_subnormal() => Millimetres { refusal: 30, value: 0 },
+            _ => Reference.millimetres(bits),
+        }),
+    ),
+];
+
+#[test]
+fn wrong_millimetres_are_found() {
+    for (name, wrong) in WRONG_MILLIMETRES {
+        let found = compare_millimetres(wrong, first_seed(), CONVERSIONS);
+        assert!(found.is_err(), "not found: {name}");
+    }
+    let conversions = agreed(compare_millimetres(&Reference, first_seed(), CONVERSIONS));
+    println!("conversions: {conversions}");
+    assert!(conversions >= CONVERSIONS);
+}
+
+fn right_reading(closed: bool, dialect: u32, bytes: &[u8], table: &mut [u32]) -> Reading {
+    if closed {
+        Reference.closed_reading(dialect, bytes, table)
+    } else {
+        Reference.open_reading(dialect, bytes, table)
+    }
+}
+
+/// Goes behind the claimed length of a bad SiRad frame with data.
+fn jump_behind_bad_frames(closed: bool, dialect: u32, bytes: &[u8], table: &mut [u32]) -> Reading {
+    let right = right_reading(closed, dialect, bytes, table);
+    if !closed || dialect != 0 || right.refusal != 0 {
+        return right;
+    }
+    let (mut place, mut rows) = (0, 0);
+    while place < bytes.len() {
+        let judgement = Reference.judge(dialect, bytes, place);
+        if judgement.state == WHOLE {
+            let Some(row) = table.get_mut(ROW * rows..ROW * rows + ROW) else {
+                break;
+            };
+            row.copy_from_slice(&[place as u32, judgement.length as u32, judgement.kind]);
+            rows += 1;
+            place += judgement.length as usize;
+        } else if judgement.reason == 13 && bytes.len() > place + 6 {
+            let size = std::str::from_utf8(&bytes[place + 2..place + 6]).unwrap_or("0");
+            place += 16 + usize::from_str_radix(size, 16).unwrap_or(0);
+        } else {
+            place += 1;
+        }
+    }
+    Reading { rows: rows as u64, ..right }
+}
+
+const WRONG_READINGS: &[(&str, Wrong)] = &[
+    ("a bad frame's claimed length is jumped over", Wrong::Read(jump_behind_bad_frames)),
+    ("the closed reading stops where a place waits", Wrong::Read(|_, d, b, table| Reference.open_reading(d, b, table))),
+    ("the open reading skips what waits", Wrong::Read(|_, d, b, table| Reference.closed_reading(d, b, table))),
+    ("no row is written", Wrong::Read(|closed, d, b, table| right_reading(closed, d, b, &mut table.to_vec()))),
+    (
+        "the last row of a table is not used",
+        Wrong::Read(|closed, d, b, table| {
+            let used = table.len().saturating_sub(1);
+            right_reading(closed, d, b, &mut table[..used])
+        }),
+    ),
+    (
+        "part of a row is used",
+        Wrong::Read(|closed, d, b, table| {
+            let mut longer = table.to_vec();
+            longer.resize(table.len().next_multiple_of(ROW), 0);
+            let reading = right_reading(closed, d, b, &mut longer);
+            table.copy_from_slice(&longer[..table.len()]);
+            reading
+        }),
+    ),
+    (
+        "the rest of the table is cleared",
+        Wrong::Read(|closed, d, b, table| {
+            let reading = right_reading(closed, d, b, table);
+            if reading.refusal == 0 {
+                table[ROW * reading.rows as usize..].fill(0);
+            }
+            reading
+        }),
+    ),
+    (
+        "a refusal clears the table",
+        Wrong::Read(|closed, d, b, table| {
+            let reading = right_reading(closed, d, b, table);
+            if reading.refusal != 0 {
+                table.fill(0);
+            }
+            reading
+        }),
+    ),
+    (
+        "length and kind change places",
+        Wrong::Read(|closed, d, b, table| {
+            let reading = right_reading(closed, d, b, table);
+            for row in table.chunks_exact_mut(ROW).take(reading.rows as usize) {
+                row.swap(1, 2);
+            }
+            reading
+        }),
+    ),
+    (
+        "the end counts as skipped",
+        Wrong::Read(|closed, d, b, table| {
+            let reading = right_reading(closed, d, b, table);
+            Reading { skipped: reading.skipped + u64::from(reading.state == 2), ..reading }
+        }),
+    ),
+    (
+        "the end of the open reading is state 2",
+        Wrong::Read(|closed, d, b, table| {
+            let reading = right_reading(closed, d, b, table);
+            let state = if reading.next == b.len() as u64 && reading.refusal == 0 { 2 } else { reading.state };
+            Reading { state, ..reading }
+        }),
+    ),
+    (
+        "a full table stops at once",
+        Wrong::Read(|closed, d, b, table| {
+            let reading = right_reading(closed, d, b, table);
+            let full = reading.refusal == 0 && reading.rows > 0 && reading.rows as usize == table.len() / ROW;
+            Reading { state: if full { 1 } else { reading.state }, ..reading }
+        }),
+    ),
+    (
+        "a mebibyte is refused",
+        Wrong::Read(|closed, d, b, table| match b.len() {
+            1_048_576 if d < 2 => Reading { refusal: 3, ..Reading::default() },
+            _ => right_reading(closed, d, b, table),
+        }),
+    ),
+];
+
+#[test]
+fn wrong_readings_are_found() {
+    for (name, wrong) in WRONG_READINGS {
+        let found = compare_readings(wrong, first_seed(), READINGS);
+        assert!(found.is_err(), "not found: {name}");
+    }
+}
+
+#[test]
+fn wrong_answers_are_found_by_splitting() {
+    let by_splitting = [WRONG_JUDGEMENTS[11], WRONG_JUDGEMENTS[12], WRONG_READINGS[2], WRONG_READINGS[10]];
+    for (name, wrong) in by_splitting {
+        let found = compare_splits(&wrong, first_seed(), SPLIT_CAPTURES);
+        assert!(found.is_err(), "not found: {name}");
+    }
+}
