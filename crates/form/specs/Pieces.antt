@@ -1,8 +1,10 @@
 -- The pieces that the wires' grammars are written with.
 use mathlib.Core.Bool.{Bool, true}
+use mathlib.Core.Path.{_≡_}
 use mathlib.Core.List.{List, [], _∷_}
-use Prim.Native.Nat.{ℕ, zero, suc}
+use Prim.Native.Nat.{ℕ, zero, suc, _<_}
 use lib.Dec.{eqb}
+use lib.ListN.{length, take, getD}
 use Rattle.form.specs.Form.{Form, whole, byte, word, _>>=_, _>>_}
 
 -- the test that takes everything
@@ -31,3 +33,7 @@ free (suc n) = byte 0 any (λ _. free n)
 unfoldable pub frees : ℕ → Form
 frees zero = whole 0
 frees (suc n) = word 0 any (λ _. frees n)
+
+-- the bytes break the given ones: one that is there is another, and those before it are as given
+unfoldable pub Broken : List ℕ → List ℕ → Type 0
+Broken ms xs = (i : ℕ) × (i < length ms) × (i < length xs) × (take i xs ≡ take i ms) × (getD xs i 0 ≡ getD ms i 0 → ⊥)

@@ -151,7 +151,8 @@ records-fill P bs n z {p = p} {e = e} (more {k = k} l r) h q =
     let s : z - (p + 8 + m + 8 * k) ≡ z - (p + 8 * suc k) - m = omega arith in
     (littleAt 4 p bs, m, l, omega arith, rw s at (records-fill P bs n z r h q))
 
-entry-whole : (P : Profile) (n k room p : ℕ) (bs : List ℕ) → p + 8 + littleAt 4 (p + 4) bs ≤ length bs → typeOk P n k room (littleAt 4 p bs) ≡ true
+-- a record whose fields pass and whose payload is there is whole
+pub entry-whole : (P : Profile) (n k room p : ℕ) (bs : List ℕ) → p + 8 + littleAt 4 (p + 4) bs ≤ length bs → typeOk P n k room (littleAt 4 p bs) ≡ true
     → lengthOk P (P .rule (littleAt 4 p bs) n) k room (littleAt 4 (p + 4) bs) ≡ true → judgeAt (entry P n k room) p bs ≡ Whole (littleAt 4 (p + 4) bs) (p + 8 + littleAt 4 (p + 4) bs)
 unfolding entry
 entry-whole P n k room p bs h t l = let m = littleAt 4 (p + 4) bs in
@@ -177,23 +178,33 @@ records-whole P S bs n z {p = p} {e = e} (more {k = k} l r) h i q =
     (sym (length-both P (P .rule (littleAt 4 p bs) n) (suc k) room m (sym l) refl (sym fits))))) refl
     ∙ ap (λ (o : ℕ). judgeAt (records P n k o) (p + 8 + m) bs) (sym s) ∙ records-whole P S bs n z r h i q
 
+module _ (P : Profile) (bs : List ℕ) (starts : take 8 bs ≡ magic) where
+  -- behind the magic the total length is judged
+  pub total-on : 12 ≤ length bs → judge (packet P) 0 bs ≡ judgeAt (four 21 (P .total) >>= (λ l. counted P l)) 12 bs
+  unfolding packet magic
+  total-on h = go-on (marker 20 magic) _ 0 bs (marker-whole 20 magic 0 bs starts) refl ∙ go-on (frees 1) _ 8 bs (frees-whole 1 8 bs (omega arith)) refl
+
+  -- behind a legal total length the record count is judged
+  pub count-on : P .total (littleAt 4 12 bs) ≡ true → 32 ≤ length bs → judge (packet P) 0 bs
+      ≡ judgeAt (four 22 (P .count (littleAt 4 12 bs)) >>= (λ k. frees 1 >>= (λ _. records P (littleAt 4 28 bs) k (littleAt 4 12 bs - (40 + 8 * k))))) 32 bs
+  unfolding counted
+  count-on t h = total-on (omega arith) ∙ go-on (four 21 (P .total)) _ 12 bs (four-whole 21 (P .total) 12 bs (omega arith) t) refl
+      ∙ go-on (frees 3) _ 16 bs (frees-whole 3 16 bs (omega arith)) refl ∙ go-on (four 0 any) _ 28 bs (four-whole 0 any 28 bs (omega arith) refl) refl
+
+  -- behind a legal header the records are judged
+  pub header-on : P .total (littleAt 4 12 bs) ≡ true → P .count (littleAt 4 12 bs) (littleAt 4 32 bs) ≡ true → 40 ≤ length bs → judge (packet P) 0 bs
+      ≡ judgeAt (records P (littleAt 4 28 bs) (littleAt 4 32 bs) (littleAt 4 12 bs - (40 + 8 * littleAt 4 32 bs))) 40 bs
+  header-on t c h = count-on t (omega arith) ∙ go-on (four 22 (P .count (littleAt 4 12 bs))) _ 32 bs (four-whole 22 (P .count (littleAt 4 12 bs)) 32 bs (omega arith) c) refl
+      ∙ go-on (frees 1) _ 36 bs (frees-whole 1 36 bs (omega arith)) refl
+
 -- bytes that are laid out as a packet are judged whole from first to last
 pub laid-judged : (P : Profile) → Sound P → (bs : List ℕ) → Laid P bs → judge (packet P) 0 bs ≡ Whole (P .kind) (length bs)
-unfolding packet counted magic
 laid-judged P S bs g =
     let l = length bs in let n = littleAt 4 28 bs in let k = littleAt 4 32 bs in
     let b = records-least (g .records) in
     let c = S .count-reads n l k (g .total) .1 (g .count, omega (arith, g .above), records-fill P bs n l (g .records) (g .above) (g .padding)) in
-    let t : P .total (littleAt 4 12 bs) ≡ true = ap (P .total) (g .says) ∙ g .total in
-    let h : 40 ≤ length bs = omega (arith, g .above) in
-    go-on (marker 20 magic) _ 0 bs (marker-whole 20 magic 0 bs (g .starts)) refl
-    ∙ go-on (frees 1) _ 8 bs (frees-whole 1 8 bs (omega arith)) refl
-    ∙ go-on (four 21 (P .total)) _ 12 bs (four-whole 21 (P .total) 12 bs (omega arith) t) refl
-    ∙ ap (λ (i : ℕ). judgeAt (counted P i) 16 bs) (g .says)
-    ∙ go-on (frees 3) _ 16 bs (frees-whole 3 16 bs (omega arith)) refl
-    ∙ go-on (four 0 any) _ 28 bs (four-whole 0 any 28 bs (omega arith) refl) refl
-    ∙ go-on (four 22 (P .count l)) _ 32 bs (four-whole 22 (P .count l) 32 bs (omega arith) c) refl
-    ∙ go-on (frees 1) _ 36 bs (frees-whole 1 36 bs (omega arith)) refl
+    header-on P bs (g .starts) (ap (P .total) (g .says) ∙ g .total) (ap (λ (i : ℕ). P .count i k) (g .says) ∙ c) (omega (arith, g .above))
+    ∙ ap (λ (i : ℕ). judgeAt (records P n k (i - (40 + 8 * k))) 40 bs) (g .says)
     ∙ records-whole P S bs n l (g .records) (g .above) (omega arith) (g .padding)
 
 -- bytes are a frame of the packet's form exactly if they are laid out as a packet

@@ -6,3 +6,5 @@ pub mod Document
 pub mod Paper
 pub mod Reasons
 pub mod Edges
+pub mod Refusals
+pub mod Judged

@@ -113,7 +113,8 @@ laid-packet bs g = let b = total-bounds (length bs) (g .total) in record {
   fits = smallest-of (g .end) (length bs) (b .0) (g .above) (ltb-true (length bs - g .end) 32 (g .padding));
 }
 
-total-legal : (l : ℕ) → l % 32 ≡ 0 → 64 ≤ l → l ≤ 32768 → totalLegal l ≡ true
+-- a multiple of 32 from 64 to 32,768 is a legal total length
+pub total-legal : (l : ℕ) → l % 32 ≡ 0 → 64 ≤ l → l ≤ 32768 → totalLegal l ≡ true
 unfolding totalLegal
 total-legal l a b c = rw (eq-eqb (l % 32) 0 a, le-leb 64 l b, le-leb l 32768 c)
 

@@ -1,11 +1,12 @@
 -- A packet by its offsets, for any profile: what field readers go by. The theorem `frame-exactly-if-laid` says that it is the form's frame.
-use mathlib.Core.Bool.{true}
+use mathlib.Core.Bool.{true, false}
 use mathlib.Core.Path.{_≡_}
 use mathlib.Core.List.{List}
-use Prim.Native.Nat.{ℕ, suc, _+_, _-_, _≤_}
+use Prim.Native.Nat.{ℕ, suc, _+_, _-_, _*_, _≤_}
 use lib.ListN.{length, take}
 use Rattle.digits.specs.LittleEndian.{littleAt}
-use Rattle.mmwave.specs.Profile.{Profile, legal}
+use Rattle.form.specs.Pieces.{Broken}
+use Rattle.mmwave.specs.Profile.{Profile, legal, typeOk, lengthOk}
 use Rattle.mmwave.specs.Packet.{magic}
 
 -- k records stand right behind one another from offset p to e, each of a payload length that is legal for its type
@@ -23,3 +24,28 @@ pub record Laid (P : Profile) (bs : List ℕ) : Type 0 where
   pub records : Records P bs (littleAt 4 28 bs) (littleAt 4 32 bs) 40 end
   pub above : end ≤ length bs
   pub padding : P .padding (length bs - end) ≡ true
+
+-- -- How far the checks have come
+
+-- the header is there and its checks hold
+pub record HeaderHolds (P : Profile) (bs : List ℕ) : Type 0 where
+  pub starts : take 8 bs ≡ magic
+  pub total : P .total (littleAt 4 12 bs) ≡ true
+  pub count : P .count (littleAt 4 12 bs) (littleAt 4 32 bs) ≡ true
+  pub within : 40 ≤ length bs
+
+-- every check before offset p holds, the records before it are there, and k records with this room are left
+pub data Reached (P : Profile) (bs : List ℕ) : ℕ → ℕ → ℕ → Type 0 where
+  first : HeaderHolds P bs → Reached P bs (littleAt 4 32 bs) 40 (littleAt 4 12 bs - (40 + 8 * littleAt 4 32 bs))
+  next : {k p room : ℕ} → Reached P bs (suc k) p room → typeOk P (littleAt 4 28 bs) (suc k) room (littleAt 4 p bs) ≡ true
+      → lengthOk P (P .rule (littleAt 4 p bs) (littleAt 4 28 bs)) (suc k) room (littleAt 4 (p + 4) bs) ≡ true → p + 8 + littleAt 4 (p + 4) bs ≤ length bs
+      → Reached P bs k (p + 8 + littleAt 4 (p + 4) bs) (room - littleAt 4 (p + 4) bs)
+
+-- a check fails that is due, and every check before it holds: by its reason (paper 01, "Judging a place": the first that fails gives the reason)
+pub data Refused (P : Profile) (bs : List ℕ) : ℕ → Type 0 where
+  at-magic : Broken magic bs → Refused P bs 20
+  at-total : take 8 bs ≡ magic → 16 ≤ length bs → P .total (littleAt 4 12 bs) ≡ false → Refused P bs 21
+  at-count : take 8 bs ≡ magic → P .total (littleAt 4 12 bs) ≡ true → 36 ≤ length bs → P .count (littleAt 4 12 bs) (littleAt 4 32 bs) ≡ false → Refused P bs 22
+  at-type : {k p room : ℕ} → Reached P bs (suc k) p room → p + 4 ≤ length bs → typeOk P (littleAt 4 28 bs) (suc k) room (littleAt 4 p bs) ≡ false → Refused P bs 23
+  at-length : {k p room : ℕ} → Reached P bs (suc k) p room → p + 8 ≤ length bs → typeOk P (littleAt 4 28 bs) (suc k) room (littleAt 4 p bs) ≡ true
+      → lengthOk P (P .rule (littleAt 4 p bs) (littleAt 4 28 bs)) (suc k) room (littleAt 4 (p + 4) bs) ≡ false → Refused P bs 24
