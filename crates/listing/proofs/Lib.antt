@@ -1,0 +1,7 @@
+pub mod PutLaws
+pub mod DecimalLaws
+pub mod LineLaws
+pub mod GatherLaws
+pub mod RoomLaws
+pub mod ListingLaws
+pub mod Examples

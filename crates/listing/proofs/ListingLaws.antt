@@ -1,0 +1,133 @@
+-- What is put for a table that the closed reading filled is the listing, and it fits.
+use mathlib.Core.Bool.{true, false, cond}
+use mathlib.Core.Path.{_≡_, refl, sym, ap, _∙_}
+use mathlib.Core.List.{List, [], _∷_, _++_}
+use Prim.Native.Nat.{ℕ, _+_, _*_, _/_, _≤_, _<_}
+use native.Mathlib.Omega.{arith}
+use borrow.Author.Tests.{lt-ltb, le-ltb}
+use lib.Dec.{ltb}
+use lib.ListN.{length, drop, length-append}
+use lib.Seq.{length-take-le}
+use Rattle.digits.specs.Stores.{stored}
+use Rattle.digits.specs.declared.Written.{Written}
+use Rattle.digits.proofs.StoreLaws.{length-stored, unfit, done}
+use Rattle.reading.specs.Answers.{answered, roomIn}
+use Rattle.reading.specs.Reading.{Reading, reading, flat, rowWidth, lengths}
+use Rattle.reading.specs.declared.Answer.{Answer}
+use Rattle.reading.specs.declared.Row.{Row}
+use Rattle.reading.proofs.Rows.{numbers-behind-stay, lengths-and-skips-are-next, next-within}
+use Rattle.capture.specs.Dialects.{judgeOf, dialectOf}
+use Rattle.capture.specs.Entries.{maxBytes, readAnswer, readLeaves, Reads}
+use Rattle.capture.specs.declared.Asked.the-variants.{Known}
+use Rattle.capture.specs.declared.Dialect.{Dialect}
+use Rattle.capture.specs.declared.Dialect.the-variants.{Sirad, Mmwave}
+use Rattle.capture.proofs.Wires.{lawful-of}
+use Rattle.listing.specs.Lines.{headerLine, rowLine, rowLines, tableLines, endLine, refusedLine}
+use Rattle.listing.specs.Listing.{closedReading, listed, listing, outputRefusal, dialectNumber, maxInput, textRoom, Lists}
+use Rattle.listing.specs.Puts.{Puts}
+use Rattle.listing.proofs.PutLaws.{puts-length}
+use Rattle.listing.proofs.LineLaws.{lines-of-rows, row-most, end-most, table-most}
+use Rattle.listing.proofs.RoomLaws.{rows-in-bytes, room-enough}
+
+-- the number of a dialect names it
+pub number-names : (d : Dialect) → dialectOf (dialectNumber d) ≡ Known d
+unfolding dialectOf dialectNumber
+number-names Sirad = refl
+number-names Mmwave = refl
+
+-- the closed reading of a dialect, as an answer and a table
+pub record Closed (d : Dialect) (bs : List ℕ) (a : Answer) (table : List ℕ) : Type 0 where
+  pub answers : a ≡ answered (closedReading d bs)
+  pub behind : List ℕ
+  pub lies : table ≡ flat (closedReading d bs .rows) ++ behind
+  pub sized : 24576 ≡ length table
+
+module _ (d : Dialect) (bs : List ℕ) (short : length bs ≤ maxInput) where
+  -- with a table of 8,192 rows the reading is whole
+  pub closed-whole : (number : ℕ) (table after : List ℕ) (a : Answer) → number ≡ dialectNumber d → 24576 ≡ length table → Reads number true bs table a after → Closed d bs a after
+  unfolding readAnswer readLeaves
+  closed-whole number table after a n e r =
+      let k : dialectOf number ≡ Known d = ap dialectOf n ∙ number-names d in
+      let w : reading (judgeOf d) true 8192 bs ≡ closedReading d bs = room-enough d bs 8192 (omega arith) in
+      let m : roomIn table ≡ 8192 = rw (← e) in
+      let x : a ≡ answered (reading (judgeOf d) true 8192 bs) = rw (k, le-ltb maxBytes (length bs) (omega arith), m) at (r .answers) in
+      let y : after ≡ stored table 0 (flat (reading (judgeOf d) true 8192 bs .rows)) = rw (k, le-ltb maxBytes (length bs) (omega arith), m) at (r .leaves) in
+      let z = numbers-behind-stay (judgeOf d) (lawful-of d) true bs table 8192 (omega arith) in
+      record {
+        answers = x ∙ ap answered w;
+        behind = drop (rowWidth * length (reading (judgeOf d) true 8192 bs .rows)) table;
+        lies = y ∙ z ∙ ap (λ (r : Reading). flat (r .rows) ++ drop (rowWidth * length (reading (judgeOf d) true 8192 bs .rows)) table) w;
+        sized = e ∙ sym (ap length y ∙ length-stored table 0 (flat (reading (judgeOf d) true 8192 bs .rows)));
+      }
+
+  -- how many rows and skipped bytes there can be
+  pub closed-few : (a : Answer) (table : List ℕ) → Closed d bs a table → (a .rows ≤ 8192) × (a .skipped ≤ 65536)
+  unfolding closedReading
+  closed-few a table c =
+      let x = rows-in-bytes d true (length bs) bs in
+      let y = lengths-and-skips-are-next (judgeOf d) (lawful-of d) true bs (length bs) in
+      let z = next-within (judgeOf d) (lawful-of d) true bs (length bs) in
+      let p : a .rows ≡ length (reading (judgeOf d) true (length bs) bs .rows) = ap (λ (a : Answer). a .rows) (c .answers) in
+      let q : a .skipped ≡ reading (judgeOf d) true (length bs) bs .skipped = ap (λ (a : Answer). a .skipped) (c .answers) in
+      (omega arith, omega arith)
+
+  -- the text by the table is the listing
+  pub puts-listed : (a : Answer) (table out after : List ℕ) (end : ℕ) → Closed d bs a table
+      → Puts (headerLine ++ (tableLines (a .rows) table ++ endLine (length bs) (a .skipped))) out 0 end after → Puts (listed d bs) out 0 end after
+  unfolding listed
+  puts-listed a table out after end c p =
+      let t : tableLines (a .rows) table ≡ rowLines (closedReading d bs .rows) = rw (c .lies, ap (λ (a : Answer). a .rows) (c .answers)) (lines-of-rows (closedReading d bs .rows) (c .behind)) in
+      let s : a .skipped ≡ closedReading d bs .skipped = ap (λ (a : Answer). a .skipped) (c .answers) in
+      rw (t, s) at p
+
+rows-most : (ws : List Row) → length (rowLines ws) ≤ 24 * length ws
+unfolding rowLines
+rows-most [] = omega arith
+rows-most (w ∷ ws) =
+    let e = length-append (rowLine w) (rowLines ws) in
+    let a = row-most w in
+    let b = rows-most ws in
+    omega arith
+
+-- every listing fits in the buffer for it
+pub listed-most : (d : Dialect) (bs : List ℕ) → length bs ≤ maxInput → length (listed d bs) ≤ textRoom
+unfolding listed headerLine closedReading
+listed-most d bs h =
+    let ws = reading (judgeOf d) true (length bs) bs .rows in
+    let last = endLine (length bs) (reading (judgeOf d) true (length bs) bs .skipped) in
+    let e = length-append headerLine (rowLines ws ++ last) in
+    let f = length-append (rowLines ws) last in
+    let a = rows-most ws in
+    let b = end-most (length bs) (reading (judgeOf d) true (length bs) bs .skipped) in
+    let r = rows-in-bytes d true (length bs) bs in
+    omega arith
+
+-- -- The three answers
+
+module _ (d : Dialect) (bs out : List ℕ) where
+  -- a buffer that some listing would not fit in
+  pub listing-refused : length out < textRoom → Lists d bs out (record { refusal = 51; size = 0 }) out
+  listing-refused h = record {
+    writes = rw (lt-ltb (length out) textRoom h) (unfit 51 (listing d bs) out (λ e. omega arith));
+    counts = (omega arith, refl);
+  }
+
+  module _ (room : textRoom ≤ length out) where
+    written : (text after : List ℕ) (end : ℕ) → listing d bs ≡ text → length text ≤ length out → Puts text out 0 end after → Lists d bs out (record { refusal = 0; size = end }) after
+    written text after end e h p =
+        let l : end ≤ length after = omega (arith, p .ends, puts-length p) in
+        record {
+          writes =
+              rw (le-ltb (length out) textRoom room, e) (done 0 text out after end refl (omega (arith, p .ends)) (omega (arith, p .ends)) (p .leaves));
+          counts = (l, sym (length-take-le end after l));
+        }
+
+    -- too many bytes: only the refusal
+    pub listing-long : (after : List ℕ) (end : ℕ) → maxInput < length bs → Puts refusedLine out 0 end after → Lists d bs out (record { refusal = 0; size = end }) after
+    unfolding listing refusedLine
+    listing-long after end h p = written refusedLine after end (rw (lt-ltb maxInput (length bs) h)) (omega arith) p
+
+    -- the lines of the closed reading
+    pub listing-whole : (after : List ℕ) (end : ℕ) → length bs ≤ maxInput → Puts (listed d bs) out 0 end after → Lists d bs out (record { refusal = 0; size = end }) after
+    unfolding listing
+    listing-whole after end h p = written (listed d bs) after end (rw (le-ltb maxInput (length bs) h)) (omega (arith, listed-most d bs h)) p

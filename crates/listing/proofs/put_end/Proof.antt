@@ -1,0 +1,27 @@
+-- `listing::put_end` meets its contract: the word, then the numbers.
+use Rattle.listing.specs.Lines.{endLine}
+use Rattle.listing.proofs.PutLaws.{puts-then}
+use borrow.Author.Needs.{needs}
+use Rattle.listing.proofs.put_end.Statement.{statement}
+use Rattle.listing.proofs.put_end.Tie as tie
+
+slice-aggregate-put-text : tie.Need-slice-aggregate-put-text
+slice-aggregate-put-text c = search needs
+
+put-text-requires : tie.Need-put-text-requires
+put-text-requires c κs = search needs
+
+put-fields-requires : tie.Need-put-fields-requires
+put-fields-requires c κs = search needs
+
+same-length : tie.Need-same-length
+same-length c = search needs
+
+returns : tie.Need-returns
+unfolding endLine
+returns c = puts-then (c .before .before .before .before .before .before .put-text .ensures) (c .before .before .put-fields .ensures)
+
+pub put-end-spec : {M : Type 1} → statement M
+put-end-spec =
+    tie.close
+    (tie.spec slice-aggregate-put-text put-text-requires put-fields-requires same-length returns)

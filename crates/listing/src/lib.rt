@@ -1,0 +1,298 @@
+// The listing of a capture: standard input gathered in blocks, and the text that a listing program prints (paper 01, "The listing").
+
+use capture::Dialect;
+use digits::Written;
+ghost use mathlib.Core.Path.{_≡_};
+ghost use mathlib.Core.List.{[], _∷_, _++_};
+ghost use Prim.Native.Nat.{_+_, _*_, _≤_, _<_};
+ghost use lib.ListN.{length, drop};
+ghost use Rattle.listing.specs.Decimal.{decimal, width};
+ghost use Rattle.listing.specs.Lines.{letter, field, fields, headerLine, rowLine, tableLines, endLine, firstOf};
+ghost use Rattle.listing.specs.Puts.{Puts};
+ghost use Rattle.listing.specs.Zeros.{Zeros};
+ghost use Rattle.listing.specs.Gather.{Appends, Gathers};
+ghost use Rattle.listing.specs.Listing.{listed, textRoom, dialectNumber, Lists};
+
+// The most bytes of input that are listed.
+pub const MAX_INPUT: usize = 65536;
+
+// The refusal of this crate (paper 01, "Refusal numbers").
+pub const OUTPUT_TOO_SHORT: u32 = 51;
+
+// One byte more than is listed: it is reached by an input that is too long.
+pub const INPUT_ROOM: usize = 65537;
+
+// Room for 8,192 lines of at most 24 bytes (a letter, two tabs, two numbers of at most 10 digits, a line feed), the first line with 18 and the last one with at most 26.
+pub const TEXT_ROOM: usize = 196652;
+
+// Three numbers for each of 8,192 rows: the shortest frame has 8 bytes, so an input within the limit has no more (`rows-in-bytes`).
+const TABLE_ROOM: usize = 24576;
+
+const STANDARD_INPUT: i32 = 0;
+
+const TAB: u8 = 9;
+
+const LINE_FEED: u8 = 10;
+
+// -- Buffers
+
+// Zeros for the input.
+pub fn input_buffer() -> [u8; INPUT_ROOM]
+    ensures { λ r. ⌜ Zeros 65537 r ⌝ }
+{
+    [0; INPUT_ROOM]
+}
+
+// Zeros for the text of any listing.
+pub fn text_buffer() -> [u8; TEXT_ROOM]
+    ensures { λ r. ⌜ Zeros 196652 r ⌝ }
+{
+    [0; TEXT_ROOM]
+}
+
+// Zeros for the rows.
+fn row_table() -> [u32; TABLE_ROOM]
+    ensures { λ r. ⌜ Zeros 24576 r ⌝ }
+{
+    [0; TABLE_ROOM]
+}
+
+fn least(a: usize, b: usize) -> usize
+    ensures { λ r. ⌜ (r ≤ a) × (r ≤ b) × (0 < a → 0 < b → 0 < r) ⌝ }
+{
+    if a < b {
+        return a;
+    }
+    b
+}
+
+// -- Text
+
+// Puts one byte into the buffer.
+fn put_byte(out: &mut [u8], at: usize, b: u8) -> usize
+    requires { ⌜ at < length (now out) ⌝ }
+    ensures { λ r. ⌜ Puts (b ∷ []) (now (out .entry)) at r (now (out .exit)) ⌝ }
+{
+    out[at] = b;
+    at + 1
+}
+
+// Puts bytes into the buffer.
+fn put_text(out: &mut [u8], at: usize, text: &[u8]) -> usize
+    requires { ⌜ at + length (now text) ≤ length (now out) ⌝ }
+    ensures { λ r. ⌜ Puts (now (text .entry)) (now (out .entry)) at r (now (out .exit)) ⌝ }
+{
+    let mut i: usize = 0;
+    while i < text.len() {
+        out[at + i] = text[i];
+        i = i + 1;
+    }
+    at + i
+}
+
+// How many digits a number takes.
+fn width_of(v: u32) -> usize
+    ensures { λ r. ⌜ r ≡ width v ⌝ }
+{
+    if v < 10 {
+        return 1;
+    }
+    if v < 100 {
+        return 2;
+    }
+    if v < 1000 {
+        return 3;
+    }
+    if v < 10000 {
+        return 4;
+    }
+    if v < 100000 {
+        return 5;
+    }
+    if v < 1000000 {
+        return 6;
+    }
+    if v < 10000000 {
+        return 7;
+    }
+    if v < 100000000 {
+        return 8;
+    }
+    if v < 1000000000 {
+        return 9;
+    }
+    10
+}
+
+// Puts a number in decimal, its last digit first.
+fn put_decimal(out: &mut [u8], at: usize, v: u32) -> usize
+    requires { ⌜ at + 10 ≤ length (now out) ⌝ }
+    ensures { λ r. ⌜ Puts (decimal v) (now (out .entry)) at r (now (out .exit)) ⌝ }
+{
+    let n = width_of(v);
+    let mut left = n;
+    let mut rest = v;
+    while 0 < left {
+        left = left - 1;
+        out[at + left] = 48 + (rest % 10) as u8;
+        rest = rest / 10;
+    }
+    at + n
+}
+
+fn put_field(out: &mut [u8], at: usize, v: u32) -> usize
+    requires { ⌜ at + 11 ≤ length (now out) ⌝ }
+    ensures { λ r. ⌜ Puts (field v) (now (out .entry)) at r (now (out .exit)) ⌝ }
+{
+    let digits = put_byte(out, at, TAB);
+    put_decimal(out, digits, v)
+}
+
+fn put_fields(out: &mut [u8], at: usize, a: u32, b: u32) -> usize
+    requires { ⌜ at + 23 ≤ length (now out) ⌝ }
+    ensures { λ r. ⌜ Puts (fields a b) (now (out .entry)) at r (now (out .exit)) ⌝ }
+{
+    let second = put_field(out, at, a);
+    let end = put_field(out, second, b);
+    put_byte(out, end, LINE_FEED)
+}
+
+// The letter of a kind.
+fn letter_of(kind: u32) -> u8
+    ensures { λ r. ⌜ r ≡ letter kind ⌝ }
+{
+    match kind {
+        1 => b'R',
+        2 => b'P',
+        3 => b'C',
+        4 => b'T',
+        5 => b'U',
+        6 => b'E',
+        16 => b'M',
+        _ => b'?',
+    }
+}
+
+// Puts the line of the row that starts at an index of the table.
+fn put_row(out: &mut [u8], at: usize, table: &[u32], index: usize) -> usize
+    requires { ⌜ at + 24 ≤ length (now out) ⌝ }
+    requires { ⌜ index + 3 ≤ length (now table) ⌝ }
+    ensures { λ r. ⌜ Puts (rowLine (firstOf (drop index (now (table .entry))))) (now (out .entry)) at r (now (out .exit)) ⌝ }
+{
+    let kind = letter_of(table[index + 2]);
+    let numbers = put_byte(out, at, kind);
+    put_fields(out, numbers, table[index], table[index + 1])
+}
+
+// Puts the lines of the first rows of the table.
+fn put_rows(out: &mut [u8], from: usize, table: &[u32], rows: usize) -> usize
+    requires { ⌜ from + 24 * rows ≤ length (now out) ⌝ }
+    requires { ⌜ 3 * rows ≤ length (now table) ⌝ }
+    ensures { λ r. ⌜ Puts (tableLines rows (now (table .entry))) (now (out .entry)) from r (now (out .exit)) ⌝ }
+{
+    let mut at = from;
+    let mut i: usize = 0;
+    while i < rows {
+        let index = 3 * i;
+        at = put_row(out, at, table, index);
+        i = i + 1;
+    }
+    at
+}
+
+fn put_end(out: &mut [u8], at: usize, size: u32, skipped: u32) -> usize
+    requires { ⌜ at + 26 ≤ length (now out) ⌝ }
+    ensures { λ r. ⌜ Puts (endLine size skipped) (now (out .entry)) at r (now (out .exit)) ⌝ }
+{
+    let numbers = put_text(out, at, b"end");
+    put_fields(out, numbers, size, skipped)
+}
+
+// -- The listing
+
+// The number of a dialect.
+fn number_of(d: Dialect) -> u32
+    ensures { λ r. ⌜ r ≡ dialectNumber d ⌝ }
+{
+    match d {
+        Dialect::Sirad => 0,
+        Dialect::Mmwave => 1,
+    }
+}
+
+// Puts the first line, the lines of the table's rows, and the last line.
+fn put_all(out: &mut [u8], table: &[u32], rows: usize, size: u32, skipped: u32) -> usize
+    requires { ⌜ 44 + 24 * rows ≤ length (now out) ⌝ }
+    requires { ⌜ 3 * rows ≤ length (now table) ⌝ }
+    ensures { λ r. ⌜ Puts (headerLine ++ (tableLines rows (now (table .entry)) ++ endLine size skipped)) (now (out .entry)) 0 r (now (out .exit)) ⌝ }
+{
+    let first = put_text(out, 0, b"kind\tplace\tlength\n");
+    let last = put_rows(out, first, table, rows);
+    put_end(out, last, size, skipped)
+}
+
+fn put_listing(bytes: &[u8], out: &mut [u8], d: Dialect) -> usize
+    requires { ⌜ length (now bytes) ≤ 65536 ⌝ }
+    requires { ⌜ textRoom ≤ length (now out) ⌝ }
+    ensures { λ r. ⌜ Puts (listed d (now (bytes .entry))) (now (out .entry)) 0 r (now (out .exit)) ⌝ }
+{
+    let mut table = row_table();
+    let number = number_of(d);
+    let a = capture::closed_reading(number, bytes, &mut table);
+    let size = bytes.len() as u32;
+    let skipped = a.skipped as u32;
+    put_all(out, &table, a.rows, size, skipped)
+}
+
+// Writes what a listing program prints for these bytes: the closed reading, one line for each frame, or `refused`, tab, `4` for over 65,536 bytes.
+// For the 9 bytes `!E0000`, CR, LF, space it is `kind`, tab, `place`, tab, `length`; `E`, tab, `0`, tab, `8`; `end`, tab, `9`, tab, `1`.
+pub fn write_listing(bytes: &[u8], out: &mut [u8], d: Dialect) -> Written
+    ensures { λ r. ⌜ Lists d (now (bytes .entry)) (now (out .entry)) r (now (out .exit)) ⌝ }
+{
+    if out.len() < TEXT_ROOM {
+        return Written {
+            refusal: OUTPUT_TOO_SHORT,
+            size: 0,
+        };
+    }
+    if MAX_INPUT < bytes.len() {
+        let size = put_text(out, 0, b"refused\t4\n");
+        return Written {
+            refusal: 0,
+            size: size,
+        };
+    }
+    let size = put_listing(bytes, out, d);
+    Written {
+        refusal: 0,
+        size: size,
+    }
+}
+
+// -- Standard input
+
+// Puts as many of the first bytes of the block behind those gathered as there is room for.
+fn append(buffer: &mut [u8], size: usize, block: &[u8], got: usize) -> usize
+    requires { ⌜ size ≤ length (now buffer) ⌝ }
+    requires { ⌜ got ≤ length (now block) ⌝ }
+    ensures { λ r. ⌜ Appends (now (buffer .entry)) size (now (block .entry)) got r (now (buffer .exit)) ⌝ }
+{
+    let n = least(got, buffer.len() - size);
+    put_text(buffer, size, &block[..n])
+}
+
+// Reads standard input, block by block, into the buffer until it ends or the buffer is full, and answers how many bytes there are.
+// Fewer bytes than the block holds are not the end; none are, and so is a read that fails.
+pub fn gather(block: &mut [u8], buffer: &mut [u8]) -> usize
+    ensures { λ r. ⌜ Gathers (now (buffer .entry)) r (now (buffer .exit)) × (length (now (block .exit)) ≡ length (now (block .entry))) ⌝ }
+{
+    let mut size: usize = 0;
+    while size < buffer.len() {
+        let got = io::count(libc::read(STANDARD_INPUT, block), block);
+        if got == 0 {
+            return size;
+        }
+        size = append(buffer, size, block, got);
+    }
+    size
+}
