@@ -1,0 +1,35 @@
+-- `gateway::vq_judge` meets its contract: the numbers are those of the verdict, by its case.
+use mathlib.Core.Path.{sym, ap, _∙_}
+use Rattle.gateway.specs.Numbers.{verdictNumbers}
+use borrow.Author.Needs.{needs}
+use Rattle.gateway.proofs.vq_judge.Statement.{statement}
+use Rattle.gateway.proofs.vq_judge.Tie as tie
+
+judge-at-requires : tie.Need-judge-at-requires
+judge-at-requires c κs = search needs
+
+enum-known-number : tie.Need-enum-known-number
+enum-known-number c = search needs
+
+enum-known-j : tie.Need-enum-known-j
+enum-known-j c = search needs
+
+judgement-numbers-requires : tie.Need-judgement-numbers-requires
+judgement-numbers-requires c κs = search needs
+
+returns : tie.Need-returns
+returns c = ap verdictNumbers (sym (c .before .number .given .1) ∙ c .before .before .before .judge-at .ensures .answers)
+
+returns-2 : tie.Need-returns-2
+returns-2 c = c .judgement-numbers .ensures ∙ ap verdictNumbers (sym (c .before .before .j .given .1) ∙ c .before .before .before .before .judge-at .ensures .answers)
+
+pub vq-judge-spec : {M : Type 1} → statement M
+vq-judge-spec =
+    tie.close
+    (tie.spec
+    judge-at-requires
+    enum-known-number
+    enum-known-j
+    judgement-numbers-requires
+    returns
+    returns-2)
