@@ -1,27 +1,31 @@
 use mathlib.Core.Path.{_≡_, refl, sym, ap, _∙_}
 use native.Mathlib.Omega.{arith}
-use Rattle.digits.proofs.StoreLaws.{unfit, short, done}
-use Rattle.sirad_fields.specs.Fields.{errorBytes}
+use Rattle.sirad_fields.specs.Fields.{errorRefusal, errorBytes}
 use Rattle.sirad_fields.proofs.FrameStores.{error-size}
-use Rattle.sirad_fields.proofs.WritingLaws.{error-fits}
+use Rattle.sirad_fields.proofs.WritingLaws.{none-refused, all-written, refused-written, first-none, error-fits}
 use borrow.Author.Needs.{needs}
 use Rattle.sirad_fields.proofs.write_error.Statement.{statement}
 use Rattle.sirad_fields.proofs.write_error.Tie as tie
 use Rattle.sirad_fields.proofs.write_error.Reads as reads
 use Rattle.sirad_fields.proofs.write_error.Lts as lts
 use Rattle.sirad_fields.proofs.put_error.Reads as put-error-reads
+use Rattle.sirad_fields.proofs.short_of.Reads as short-of-reads
+
+short-of-requires : tie.Need-short-of-requires
+short-of-requires c κs = search needs
 
 returns : tie.Need-returns
-returns c = let a = c .before .before .args in short _ (errorBytes (a .flags)) (a .out .now) (error-fits (a .flags) (omega arith)) (omega (arith, error-size (a .flags)))
+returns c = let a = c .before .before .before .args in refused-written (errorRefusal (a .flags)) (errorBytes (a .flags)) (a .out .now) 8 (error-size (a .flags)) (sym (error-fits (a .flags) (omega arith))) (c .before .short-of .ensures) (first-none 0 _ refl) (c .if1 .taken)
 
 put-error-requires : tie.Need-put-error-requires
-put-error-requires c κs = search needs
+put-error-requires c κs = let a = c .before .before .before .before .args in (none-refused (errorRefusal (a .flags)) (errorBytes (a .flags)) (a .out .now) 8 (error-size (a .flags)) (sym (error-fits (a .flags) (omega arith))) (c .before .before .short-of .ensures) (first-none 0 _ refl) (c .before .if1 .left)) .1
 
 same-length : tie.Need-same-length
 same-length c = search needs
 
 returns-2 : tie.Need-returns-2
-returns-2 c = let a = c .before .before .before .before .before .before .args in done _ (errorBytes (a .flags)) (a .out .now) _ 8 (error-fits (a .flags) (omega arith)) (error-size (a .flags)) (omega arith) (c .before .before .put-error .ensures)
+returns-2 c = let a = c .before .before .before .before .before .before .before .args in all-written (errorRefusal (a .flags)) (errorBytes (a .flags)) (a .out .now) 8 (error-size (a .flags)) (sym (error-fits (a .flags) (omega arith))) (c .before .before .before .before .before .short-of .ensures) (first-none 0 _ refl) (c .before .before .before .before .if1 .left) (c .before .before .put-error .ensures)
 
 pub write-error-spec : {M : Type 1} → statement M
-write-error-spec = tie.close (tie.spec returns put-error-requires same-length returns-2)
+write-error-spec =
+    tie.close (tie.spec short-of-requires returns put-error-requires same-length returns-2)

@@ -1,36 +1,52 @@
 use mathlib.Core.Path.{_≡_, refl, sym, ap, _∙_}
 use native.Mathlib.Omega.{arith}
-use Rattle.digits.proofs.StoreLaws.{unfit, short, done}
-use Rattle.sirad_fields.specs.Fields.{statusNumbers, statusBytes}
+use Rattle.sirad_fields.specs.Fields.{unencoded, statusNumbers, statusRefusal, statusBytes}
 use Rattle.sirad_fields.proofs.FrameStores.{status-size}
-use Rattle.sirad_fields.proofs.WritingLaws.{encoded, unencoded-written, status-fit}
+use Rattle.sirad_fields.proofs.WritingLaws.{none-refused, all-written, refused-written, status-fit}
 use borrow.Author.Needs.{needs}
 use Rattle.sirad_fields.proofs.write_status.Statement.{statement}
 use Rattle.sirad_fields.proofs.write_status.Tie as tie
 use Rattle.sirad_fields.proofs.write_status.Reads as reads
 use Rattle.sirad_fields.proofs.write_status.Lts as lts
+use Rattle.sirad_fields.proofs.first_of.Reads as first-of-reads
 use Rattle.sirad_fields.proofs.fits_head.Reads as fits-head-reads
 use Rattle.sirad_fields.proofs.put_status.Reads as put-status-reads
+use Rattle.sirad_fields.proofs.short_of.Reads as short-of-reads
+use Rattle.sirad_fields.proofs.unencoded_unless.Reads as unencoded-unless-reads
 
 fits-head-requires : tie.Need-fits-head-requires
 fits-head-requires c κs = search needs
 
+unencoded-unless-requires : tie.Need-unencoded-unless-requires
+unencoded-unless-requires c κs = search needs
+
+short-of-requires : tie.Need-short-of-requires
+short-of-requires c κs = search needs
+
+first-of-requires : tie.Need-first-of-requires
+first-of-requires c κs = search needs
+
 returns : tie.Need-returns
-returns c = let a = c .before .before .before .before .args in short _ (statusBytes (statusNumbers (a .format) (a .gain) (a .accuracy) (a .range) (a .ramp) (a .bandwidth) (a .time))) (a .out .now) (encoded _ (status-fit (a .format) (a .gain) (a .accuracy) (a .range) (a .ramp) (a .bandwidth) (a .time) (omega arith) (omega arith) (omega arith) (omega arith) (omega arith) ∙ sym (c .before .before .fits-head .ensures) ∙ c .before .if1 .taken)) (omega (arith, status-size (statusNumbers (a .format) (a .gain) (a .accuracy) (a .range) (a .ramp) (a .bandwidth) (a .time))))
+returns c = let a = c .before .before .before .before .before .before .args in refused-written (statusRefusal (statusNumbers (a .format) (a .gain) (a .accuracy) (a .range) (a .ramp) (a .bandwidth) (a .time))) (statusBytes (statusNumbers (a .format) (a .gain) (a .accuracy) (a .range) (a .ramp) (a .bandwidth) (a .time))) (a .out .now) 26 (status-size (statusNumbers (a .format) (a .gain) (a .accuracy) (a .range) (a .ramp) (a .bandwidth) (a .time))) (c .before .before .before .unencoded-unless .ensures ∙ ap unencoded (c .before .before .before .before .fits-head .ensures ∙ sym (status-fit (a .format) (a .gain) (a .accuracy) (a .range) (a .ramp) (a .bandwidth) (a .time) (omega arith) (omega arith) (omega arith) (omega arith) (omega arith)))) (c .before .before .short-of .ensures) (c .before .first-of .ensures) (c .if1 .taken)
 
 put-status-requires : tie.Need-put-status-requires
-put-status-requires c κs = search needs
+put-status-requires c κs = let a = c .before .before .before .before .before .before .before .args in (none-refused (statusRefusal (statusNumbers (a .format) (a .gain) (a .accuracy) (a .range) (a .ramp) (a .bandwidth) (a .time))) (statusBytes (statusNumbers (a .format) (a .gain) (a .accuracy) (a .range) (a .ramp) (a .bandwidth) (a .time))) (a .out .now) 26 (status-size (statusNumbers (a .format) (a .gain) (a .accuracy) (a .range) (a .ramp) (a .bandwidth) (a .time))) (c .before .before .before .before .unencoded-unless .ensures ∙ ap unencoded (c .before .before .before .before .before .fits-head .ensures ∙ sym (status-fit (a .format) (a .gain) (a .accuracy) (a .range) (a .ramp) (a .bandwidth) (a .time) (omega arith) (omega arith) (omega arith) (omega arith) (omega arith)))) (c .before .before .before .short-of .ensures) (c .before .before .first-of .ensures) (c .before .if1 .left)) .1
 
 same-length : tie.Need-same-length
 same-length c = search needs
 
 returns-2 : tie.Need-returns-2
-returns-2 c = let a = c .before .before .before .before .before .before .before .before .args in done _ (statusBytes (statusNumbers (a .format) (a .gain) (a .accuracy) (a .range) (a .ramp) (a .bandwidth) (a .time))) (a .out .now) _ 26 (encoded _ (status-fit (a .format) (a .gain) (a .accuracy) (a .range) (a .ramp) (a .bandwidth) (a .time) (omega arith) (omega arith) (omega arith) (omega arith) (omega arith) ∙ sym (c .before .before .before .before .before .before .fits-head .ensures) ∙ c .before .before .before .before .before .if1 .taken)) (status-size (statusNumbers (a .format) (a .gain) (a .accuracy) (a .range) (a .ramp) (a .bandwidth) (a .time))) (omega arith) (c .before .before .put-status .ensures)
-
-returns-3 : tie.Need-returns-3
-returns-3 c = let a = c .before .before .before .args in unencoded-written _ (statusBytes (statusNumbers (a .format) (a .gain) (a .accuracy) (a .range) (a .ramp) (a .bandwidth) (a .time))) (a .out .now) (status-fit (a .format) (a .gain) (a .accuracy) (a .range) (a .ramp) (a .bandwidth) (a .time) (omega arith) (omega arith) (omega arith) (omega arith) (omega arith) ∙ sym (c .before .fits-head .ensures) ∙ c .if1 .left)
+returns-2 c = let a = c .before .before .before .before .before .before .before .before .before .before .args in all-written (statusRefusal (statusNumbers (a .format) (a .gain) (a .accuracy) (a .range) (a .ramp) (a .bandwidth) (a .time))) (statusBytes (statusNumbers (a .format) (a .gain) (a .accuracy) (a .range) (a .ramp) (a .bandwidth) (a .time))) (a .out .now) 26 (status-size (statusNumbers (a .format) (a .gain) (a .accuracy) (a .range) (a .ramp) (a .bandwidth) (a .time))) (c .before .before .before .before .before .before .before .unencoded-unless .ensures ∙ ap unencoded (c .before .before .before .before .before .before .before .before .fits-head .ensures ∙ sym (status-fit (a .format) (a .gain) (a .accuracy) (a .range) (a .ramp) (a .bandwidth) (a .time) (omega arith) (omega arith) (omega arith) (omega arith) (omega arith)))) (c .before .before .before .before .before .before .short-of .ensures) (c .before .before .before .before .before .first-of .ensures) (c .before .before .before .before .if1 .left) (c .before .before .put-status .ensures)
 
 pub write-status-spec : {M : Type 1} → statement M
 write-status-spec =
     tie.close
-    (tie.spec fits-head-requires returns put-status-requires same-length returns-2 returns-3)
+    (tie.spec
+    fits-head-requires
+    unencoded-unless-requires
+    short-of-requires
+    first-of-requires
+    returns
+    put-status-requires
+    same-length
+    returns-2)

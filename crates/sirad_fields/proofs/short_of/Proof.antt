@@ -1,0 +1,14 @@
+use Rattle.sirad_fields.proofs.WritingLaws.{is-short, not-short}
+use Rattle.sirad_fields.proofs.short_of.Statement.{statement}
+use Rattle.sirad_fields.proofs.short_of.Tie as tie
+use Rattle.sirad_fields.proofs.short_of.Reads as reads
+use Rattle.sirad_fields.proofs.short_of.Lts as lts
+
+returns : tie.Need-returns
+returns c = is-short _ _ (c .if1 .taken)
+
+returns-2 : tie.Need-returns-2
+returns-2 c = not-short _ _ (c .if1 .left)
+
+pub short-of-spec : {M : Type 1} → statement M
+short-of-spec = tie.close (tie.spec returns returns-2)

@@ -1,0 +1,89 @@
+use borrow.Author.Needs.{needs}
+use Prim.Native.Nat.{_-_, _≤_}
+use mathlib.Core.Path.{_≡_}
+use native.Mathlib.Omega.{arith}
+use lib.ListN.{length, length-set}
+use Rattle.sirad_fields_cases.proofs.damaged_at.Statement.{statement}
+use Rattle.sirad_fields_cases.proofs.damaged_at.Tie as tie
+use Rattle.sirad_fields_cases.proofs.damaged_at.Reads as reads
+use Rattle.sirad_fields_cases.proofs.damaged_at.Lts as lts
+use Rattle.sirad_fields_cases.proofs.mixed.Reads as mixed-reads
+use Rattle.sirad_fields_cases.proofs.read_sum.Reads as read-sum-reads
+
+abbrev Inv-loop : tie.InvT-loop
+Inv-loop s₀ at kind before sum₀ kept values i₀ s sum i = (length s ≡ length s₀) × (i ≤ 15)
+
+abbrev μ-loop : tie.MeasureT-loop
+μ-loop s₀ at kind before sum₀ kept values i₀ s sum i = 15 - i
+
+-- src/main.rt:226:9
+returns : tie.Need-returns Inv-loop μ-loop
+returns c = search needs
+
+-- src/main.rt:228:16
+slice-read-kept : tie.Need-slice-read-kept Inv-loop μ-loop
+slice-read-kept c = search needs
+
+-- src/main.rt:246:5
+loop-holds : tie.Need-loop-holds Inv-loop μ-loop
+loop-holds c = search needs
+
+-- src/main.rt:247:17
+array-read-s : tie.Need-array-read-s Inv-loop μ-loop
+array-read-s c = search needs
+
+-- src/main.rt:247:9
+slice-write-s : tie.Need-slice-write-s Inv-loop μ-loop
+slice-write-s c = omega arith
+
+-- src/main.rt:248:26
+read-sum-requires : tie.Need-read-sum-requires Inv-loop μ-loop
+read-sum-requires c κs = search needs
+
+-- src/main.rt:248:9
+mixed-requires : tie.Need-mixed-requires Inv-loop μ-loop
+mixed-requires c κs = search needs
+
+-- src/main.rt:246:9
+add-i : tie.Need-add-i Inv-loop μ-loop
+add-i c = omega arith
+
+-- src/main.rt:246:5
+loop-less : tie.Need-loop-less Inv-loop μ-loop
+loop-less c = omega arith
+
+-- src/main.rt:246:5
+loop-again : tie.Need-loop-again Inv-loop μ-loop
+loop-again c = (simp length-set (omega arith), omega arith)
+
+-- src/main.rt:250:5
+slice-write-s-2 : tie.Need-slice-write-s-2 Inv-loop μ-loop
+slice-write-s-2 c = omega arith
+
+-- src/main.rt:223:1
+same-length : tie.Need-same-length Inv-loop μ-loop
+same-length c = simp length-set (omega arith)
+
+-- src/main.rt:223:1
+returns-2 : tie.Need-returns-2 Inv-loop μ-loop
+returns-2 c = search needs
+
+pub damaged-at-spec : {M : Type 1} → statement M
+damaged-at-spec =
+    tie.close
+    (tie.spec
+    Inv-loop
+    μ-loop
+    returns
+    slice-read-kept
+    loop-holds
+    array-read-s
+    slice-write-s
+    read-sum-requires
+    mixed-requires
+    add-i
+    loop-less
+    loop-again
+    slice-write-s-2
+    same-length
+    returns-2)
