@@ -1,0 +1,79 @@
+-- `packet_cases::read_all` is safe and ends: the offset stays within the bytes.
+use Prim.Native.Nat.{_≤_, _-_}
+use lib.ListN.{length}
+use borrow.Author.Needs.{needs}
+use Rattle.packet_cases.proofs.read_all.Statement.{statement}
+use Rattle.packet_cases.proofs.read_all.Tie as tie
+
+abbrev Inv-loop : tie.InvT-loop
+Inv-loop all at₀ at = at ≤ length all
+
+abbrev μ-loop : tie.MeasureT-loop
+μ-loop all at₀ at = length all - at
+
+loop-holds : tie.Need-loop-holds Inv-loop μ-loop
+loop-holds c = search needs
+
+word-at-requires : tie.Need-word-at-requires Inv-loop μ-loop
+word-at-requires c κs = search needs
+
+cast-size : tie.Need-cast-size Inv-loop μ-loop
+cast-size c = search needs
+
+sub-rest : tie.Need-sub-rest Inv-loop μ-loop
+sub-rest c = search needs
+
+returns : tie.Need-returns Inv-loop μ-loop
+returns c = search needs
+
+returns-2 : tie.Need-returns-2 Inv-loop μ-loop
+returns-2 c = search needs
+
+add-from : tie.Need-add-from Inv-loop μ-loop
+add-from c = search needs
+
+add-end : tie.Need-add-end Inv-loop μ-loop
+add-end c = search needs
+
+sub-read-one : tie.Need-sub-read-one Inv-loop μ-loop
+sub-read-one c = search needs
+
+part-read-one-start : tie.Need-part-read-one-start Inv-loop μ-loop
+part-read-one-start c = search needs
+
+part-read-one-end : tie.Need-part-read-one-end Inv-loop μ-loop
+part-read-one-end c = search needs
+
+read-one-requires : tie.Need-read-one-requires Inv-loop μ-loop
+read-one-requires c κs = search needs
+
+loop-less : tie.Need-loop-less Inv-loop μ-loop
+loop-less c = search needs
+
+loop-again : tie.Need-loop-again Inv-loop μ-loop
+loop-again c = search needs
+
+returns-3 : tie.Need-returns-3 Inv-loop μ-loop
+returns-3 c = search needs
+
+pub read-all-spec : {M : Type 1} → statement M
+read-all-spec =
+    tie.close
+    (tie.spec
+    Inv-loop
+    μ-loop
+    loop-holds
+    word-at-requires
+    cast-size
+    sub-rest
+    returns
+    returns-2
+    add-from
+    add-end
+    sub-read-one
+    part-read-one-start
+    part-read-one-end
+    read-one-requires
+    loop-less
+    loop-again
+    returns-3)

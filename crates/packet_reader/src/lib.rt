@@ -1,0 +1,102 @@
+// The packet reader: it holds the lent bytes and the offset of its next record (paper 01, "Fields"). The functions over the structs
+// that hold the bytes are thin, since each is proved by a walk of its code by hand; the work is done by functions on a plain slice.
+ghost use mathlib.Core.Path.{_≡_};
+ghost use Rattle.mmwave.specs.MmWave.{mmWave};
+ghost use Rattle.packet.specs.Fields.{stepOf, RecordShown};
+ghost use Rattle.packet_reader.specs.Parts.{partOf, PartShown, Stepped};
+use mmwave::Header;
+use packet::Cursor;
+use packet::PacketRecord;
+use packet::PacketStep;
+
+// The lent bytes, and the offset of the next record.
+pub struct PacketReader<'a> {
+    pub bytes: &'a [u8],
+    pub at: usize,
+}
+
+// A record's payload as the part of the slice; `refusal` is 0, or its number with an empty part and `kind` 0.
+pub struct RecordPart<'a> {
+    pub payload: &'a [u8],
+    pub refusal: u32,
+    pub kind: u32,
+}
+
+// -- The work, on a plain slice
+
+// The step from an offset.
+fn step_at(bytes: &[u8], at: usize) -> PacketStep
+    ensures { λ r. ⌜ r ≡ stepOf mmWave (now (bytes .entry)) at ⌝ }
+{
+    packet::step(bytes, Cursor { at })
+}
+
+// Record `index`, by its numbers.
+fn record_at(bytes: &[u8], index: usize) -> PacketRecord
+    ensures { λ r. ⌜ RecordShown mmWave (now (bytes .entry)) index r ⌝ }
+{
+    packet::record(bytes, index)
+}
+
+// The part of the slice that a record names as its payload; empty where the slice has no such part.
+fn part_of<'a>(bytes: &'a [u8], shown: PacketRecord) -> &'a [u8]
+    ensures { λ r. ⌜ now r ≡ partOf (now (bytes .entry)) shown ⌝ }
+{
+    let start = shown.start;
+    let length = shown.length;
+    if bytes.len() < start {
+        return &bytes[..0];
+    }
+    if bytes.len() - start < length {
+        return &bytes[..0];
+    }
+    let end = start + length;
+    &bytes[start..end]
+}
+
+// -- The reader
+
+// A reader at the packet's first record.
+pub fn new<'a>(bytes: &'a [u8]) -> PacketReader<'a>
+    ensures { λ r. ⌜ (r .bytes ≡ bytes .entry) × (r .at ≡ 40) ⌝ }
+{
+    PacketReader {
+        bytes,
+        at: Header::SIZE,
+    }
+}
+
+// The record at the reader's place, which stays.
+pub fn peek<'a>(r: PacketReader<'a>) -> PacketStep
+    ensures { λ s. ⌜ s ≡ stepOf mmWave (now (r .entry .bytes)) (r .entry .at) ⌝ }
+{
+    step_at(r.bytes, r.at)
+}
+
+// The record at the reader's place, and the reader moves behind it; with a refusal the place stays.
+pub fn step<'s, 'a>(r: &'s mut PacketReader<'a>) -> PacketStep
+    ensures { λ s. ⌜ Stepped (now (r .entry)) s (now (r .exit)) ⌝ }
+{
+    let s = step_at(r.bytes, r.at);
+    r.at = s.next.at;
+    s
+}
+
+// Record `index` of the bytes that the reader holds: its payload as the part of the slice, its type, and 5 or 6.
+pub fn show<'a>(r: PacketReader<'a>, index: usize) -> RecordPart<'a>
+    ensures { λ x. ⌜ PartShown (now (r .entry .bytes)) index (now (x .payload)) (x .refusal) (x .kind) ⌝ }
+{
+    let shown = record_at(r.bytes, index);
+    RecordPart {
+        payload: part_of(r.bytes, shown),
+        refusal: shown.refusal,
+        kind: shown.kind,
+    }
+}
+
+// The first step of a reader of these bytes: whoever calls it needs no walk by hand.
+pub fn first_step(bytes: &[u8]) -> PacketStep
+    ensures { λ s. ⌜ s ≡ stepOf mmWave (now (bytes .entry)) 40 ⌝ }
+{
+    peek(new(bytes))
+}
