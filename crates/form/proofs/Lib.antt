@@ -2,3 +2,4 @@ pub mod Laws
 pub mod Theorems
 pub mod Lives
 pub mod Refusals
+pub mod Insides

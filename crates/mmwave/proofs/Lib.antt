@@ -8,3 +8,4 @@ pub mod Reasons
 pub mod Edges
 pub mod Refusals
 pub mod Judged
+pub mod Insides

@@ -2,10 +2,10 @@
 use mathlib.Core.Bool.{true, false}
 use mathlib.Core.Path.{_≡_}
 use mathlib.Core.List.{List}
-use Prim.Native.Nat.{ℕ, suc, _+_, _-_, _*_, _≤_}
+use Prim.Native.Nat.{ℕ, suc, _+_, _-_, _*_, _<_, _≤_}
 use lib.ListN.{length, take}
 use Rattle.digits.specs.LittleEndian.{littleAt}
-use Rattle.form.specs.Pieces.{Broken}
+use Rattle.form.specs.Pieces.{Broken, Cut}
 use Rattle.mmwave.specs.Profile.{Profile, legal, typeOk, lengthOk}
 use Rattle.mmwave.specs.Packet.{magic}
 
@@ -49,3 +49,15 @@ pub data Refused (P : Profile) (bs : List ℕ) : ℕ → Type 0 where
   at-type : {k p room : ℕ} → Reached P bs (suc k) p room → p + 4 ≤ length bs → typeOk P (littleAt 4 28 bs) (suc k) room (littleAt 4 p bs) ≡ false → Refused P bs 23
   at-length : {k p room : ℕ} → Reached P bs (suc k) p room → p + 8 ≤ length bs → typeOk P (littleAt 4 28 bs) (suc k) room (littleAt 4 p bs) ≡ true
       → lengthOk P (P .rule (littleAt 4 p bs) (littleAt 4 28 bs)) (suc k) room (littleAt 4 (p + 4) bs) ≡ false → Refused P bs 24
+
+-- the bytes "end inside" a four-byte field: a header field behind the magic, or a record's type or payload length; every check before it holds and one to three of its bytes are there
+-- (paper 01, "Judging a place"). The fields by their offsets: version, total length; platform, frame number and time; object count, record count; subframe; those of the record at p
+pub data EndsInside (P : Profile) (bs : List ℕ) : Type 0 where
+  in-version : take 8 bs ≡ magic → Cut 8 bs → EndsInside P bs
+  in-total : take 8 bs ≡ magic → Cut 12 bs → EndsInside P bs
+  in-free : (i : ℕ) → i < 3 → take 8 bs ≡ magic → P .total (littleAt 4 12 bs) ≡ true → Cut (16 + 4 * i) bs → EndsInside P bs
+  in-objects : take 8 bs ≡ magic → P .total (littleAt 4 12 bs) ≡ true → Cut 28 bs → EndsInside P bs
+  in-count : take 8 bs ≡ magic → P .total (littleAt 4 12 bs) ≡ true → Cut 32 bs → EndsInside P bs
+  in-subframe : take 8 bs ≡ magic → P .total (littleAt 4 12 bs) ≡ true → P .count (littleAt 4 12 bs) (littleAt 4 32 bs) ≡ true → Cut 36 bs → EndsInside P bs
+  in-type : {k p room : ℕ} → Reached P bs (suc k) p room → Cut p bs → EndsInside P bs
+  in-length : {k p room : ℕ} → Reached P bs (suc k) p room → typeOk P (littleAt 4 28 bs) (suc k) room (littleAt 4 p bs) ≡ true → Cut (p + 4) bs → EndsInside P bs
