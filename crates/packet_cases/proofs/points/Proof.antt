@@ -11,31 +11,31 @@ abbrev μ-loop : tie.MeasureT-loop
 μ-loop s found count i₀ t6 t7 i = 34 - i
 
 points-requires : tie.Need-points-requires Inv-loop μ-loop
-points-requires c κs = search needs
+points-requires c κs = tt
 
 slice-aggregate-write-all : tie.Need-slice-aggregate-write-all Inv-loop μ-loop
 slice-aggregate-write-all c = search needs
 
 write-all-requires : tie.Need-write-all-requires Inv-loop μ-loop
-write-all-requires c κs = search needs
+write-all-requires c κs = tt
 
 cast-field : tie.Need-cast-field Inv-loop μ-loop
 cast-field c = search needs
 
 field-requires : tie.Need-field-requires Inv-loop μ-loop
-field-requires c κs = search needs
+field-requires c κs = tt
 
 field-requires-2 : tie.Need-field-requires-2 Inv-loop μ-loop
-field-requires-2 c κs = search needs
+field-requires-2 c κs = tt
 
 cast-field-2 : tie.Need-cast-field-2 Inv-loop μ-loop
 cast-field-2 c = search needs
 
 field-requires-3 : tie.Need-field-requires-3 Inv-loop μ-loop
-field-requires-3 c κs = search needs
+field-requires-3 c κs = tt
 
 end-line-requires : tie.Need-end-line-requires Inv-loop μ-loop
-end-line-requires c κs = search needs
+end-line-requires c κs = tt
 
 cast-count : tie.Need-cast-count Inv-loop μ-loop
 cast-count c = search needs
@@ -44,37 +44,37 @@ loop-holds : tie.Need-loop-holds Inv-loop μ-loop
 loop-holds c = search needs
 
 wrapping-add-usize-requires : tie.Need-wrapping-add-usize-requires Inv-loop μ-loop
-wrapping-add-usize-requires c κs = search needs
+wrapping-add-usize-requires c κs = tt
 
 slice-aggregate-write-all-2 : tie.Need-slice-aggregate-write-all-2 Inv-loop μ-loop
 slice-aggregate-write-all-2 c = search needs
 
 write-all-requires-2 : tie.Need-write-all-requires-2 Inv-loop μ-loop
-write-all-requires-2 c κs = search needs
+write-all-requires-2 c κs = tt
 
 field-requires-4 : tie.Need-field-requires-4 Inv-loop μ-loop
-field-requires-4 c κs = search needs
+field-requires-4 c κs = tt
 
 point-in-requires : tie.Need-point-in-requires Inv-loop μ-loop
-point-in-requires c κs = search needs
+point-in-requires c κs = tt
 
 print-point-requires : tie.Need-print-point-requires Inv-loop μ-loop
-print-point-requires c κs = search needs
+print-point-requires c κs = tt
 
 slice-aggregate-write-all-3 : tie.Need-slice-aggregate-write-all-3 Inv-loop μ-loop
 slice-aggregate-write-all-3 c = search needs
 
 write-all-requires-3 : tie.Need-write-all-requires-3 Inv-loop μ-loop
-write-all-requires-3 c κs = search needs
+write-all-requires-3 c κs = tt
 
 field-requires-5 : tie.Need-field-requires-5 Inv-loop μ-loop
-field-requires-5 c κs = search needs
+field-requires-5 c κs = tt
 
 point-requires : tie.Need-point-requires Inv-loop μ-loop
-point-requires c κs = search needs
+point-requires c κs = tt
 
 print-point-requires-2 : tie.Need-print-point-requires-2 Inv-loop μ-loop
-print-point-requires-2 c κs = search needs
+print-point-requires-2 c κs = tt
 
 add-i : tie.Need-add-i Inv-loop μ-loop
 add-i c = search needs
@@ -86,7 +86,7 @@ loop-again : tie.Need-loop-again Inv-loop μ-loop
 loop-again c = search needs
 
 returns : tie.Need-returns Inv-loop μ-loop
-returns c = search needs
+returns c = tt
 
 pub points-spec : {M : Type 1} → statement M
 points-spec =
