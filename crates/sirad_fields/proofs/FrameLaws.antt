@@ -1,8 +1,8 @@
 -- Bytes judged whole with a kind are `!`, its identifier and bytes that pass its row's classes, and back; with the laws of rows this gives the round trips of every kind.
 use mathlib.Core.Path.{_≡_, refl, sym, subst, ap, _∙_}
 use mathlib.Core.Bool.{Bool, true, false, cond}
-use mathlib.Core.List.{List, [], _∷_, _++_, append-nil}
-use Prim.Native.Nat.{ℕ, zero, suc, _+_, _<_, _≤_}
+use mathlib.Core.List.{List, [], _∷_, append-nil}
+use Prim.Native.Nat.{ℕ, _<_, _≤_}
 use native.Mathlib.Omega.{arith}
 use native.Mathlib.Decide.{decLe}
 use borrow.Author.Tests.{eqb-true, eq-eqb, le-leb, lt-leb, leb-true}
@@ -19,8 +19,8 @@ use Rattle.sirad.specs.Rows.{Piece, hex, classes, dataPieces, rowOf}
 use Rattle.sirad.specs.Sirad.{sirad}
 use Rattle.sirad.specs.Table.{identifier, total, RowFrame}
 use Rattle.sirad.proofs.TableLaws.{whole-by-row, whole-length, total-least}
-use Rattle.sirad_fields.specs.Values.{values, written, fit, blank}
-use Rattle.sirad_fields.specs.Frames.{kindOver, frameKind, rowIn, numbersIn, frameOf, blankFrame}
+use Rattle.sirad_fields.specs.Values.{values, written, fit}
+use Rattle.sirad_fields.specs.Frames.{frameKind, rowIn, numbersIn, frameOf, blankFrame}
 use Rattle.sirad_fields.specs.Fields.{isData}
 use Rattle.sirad_fields.proofs.ValueLaws.{back, passes, again, fits-again}
 

@@ -1,18 +1,17 @@
 -- The round trips of each frame: corollaries of those of any row, with the numbers as fields.
 use mathlib.Core.Path.{_≡_, refl, sym, ap, _∙_}
 use mathlib.Core.Bool.{Bool, true, false, cond, _&&_}
-use mathlib.Core.List.{List, [], _∷_, _++_}
-use Prim.Native.Nat.{ℕ, zero, suc, _+_, _-_, _*_, _^_, _<_, _≤_}
+use mathlib.Core.List.{List, [], _∷_}
+use Prim.Native.Nat.{ℕ, zero, suc, _+_, _-_, _<_, _≤_}
 use native.Mathlib.Omega.{arith}
-use borrow.Author.Tests.{le-leb, lt-leb, ltb-true, leb-true, eqb-true, eqb-false, eq-eqb, ne-eqb, lt-ltb}
+use borrow.Author.Tests.{le-leb, leb-true, eqb-true}
 use lib.Dec.{ltb, leb, eqb}
 use lib.ListN.{length, take, drop, getD, length-drop}
 use lib.Seq.{drop-drop, length-take-le}
-use Rattle.digits.specs.Bytes.{within, isCharacter}
+use Rattle.digits.specs.Bytes.{isCharacter}
 use Rattle.digits.specs.Hex.{hexValue, hexAt}
-use Rattle.digits.proofs.Choices.{test, and-left, and-right, both-ways}
+use Rattle.digits.proofs.Choices.{and-right}
 use Rattle.digits.proofs.HexLaws.{hex-at-below}
-use Rattle.units.specs.Units.{accuracyMillimetres}
 use Rattle.form.specs.declared.Judgement.the-variants.{Whole}
 use Rattle.form.specs.Form.{judge}
 use Rattle.sirad.specs.Sirad.{sirad}
@@ -23,9 +22,9 @@ use Rattle.sirad_fields.specs.declared.Target.{Target}
 use Rattle.sirad_fields.specs.declared.TargetFrame.{TargetFrame}
 use Rattle.sirad_fields.specs.declared.StatusFrame.{StatusFrame}
 use Rattle.sirad_fields.specs.declared.ErrorFrame.{ErrorFrame}
-use Rattle.sirad_fields.specs.Values.{values, written, fit, blank}
-use Rattle.sirad_fields.specs.Frames.{frameKind, rowIn, numbersIn, frameOf, blankFrame, ReadsBack, WritesBack}
-use Rattle.sirad_fields.specs.Fields.{isData, dataStart, readData, partOf, dataNumbers, dataRefusal, dataBytes, Phases, targetsOf, blockNumbers, targetFields, readTargets, targetNumbers, unencoded, targetsRefusal, targetsBytes, statusFields, readStatus, statusNumbers, sentNumbers, statusRefusal, statusBytes, readError, errorRefusal, errorBytes}
+use Rattle.sirad_fields.specs.Values.{values, written, fit}
+use Rattle.sirad_fields.specs.Frames.{frameKind, numbersIn, frameOf, ReadsBack, WritesBack}
+use Rattle.sirad_fields.specs.Fields.{isData, dataStart, readData, partOf, dataNumbers, dataRefusal, dataBytes, Phases, blockNumbers, readTargets, targetNumbers, unencoded, targetsRefusal, targetsBytes, statusFields, readStatus, statusNumbers, sentNumbers, statusRefusal, statusBytes, readError, errorRefusal, errorBytes}
 use Rattle.sirad_fields.proofs.FrameLaws.{data-range, frame-kind, kind-length, numbers-back, size-back, written-judged, written-kind, written-again, numbers-fit}
 use Rattle.sirad_fields.proofs.PhaseLaws.{numbers-targets, targets-numbers}
 

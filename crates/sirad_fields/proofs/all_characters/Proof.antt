@@ -1,6 +1,7 @@
-use mathlib.Core.Path.{_≡_, refl, sym, ap, _∙_}
+-- `sirad_fields::all_characters` meets its contract. The characters left fit exactly if all do.
+use mathlib.Core.Path.{_≡_, sym, _∙_}
 use native.Mathlib.Omega.{arith}
-use Prim.Native.Nat.{_-_, _+_, _≤_}
+use Prim.Native.Nat.{_-_, _≤_}
 use native.Mathlib.Nat.{sub-zero}
 use lib.ListN.{length, drop}
 use Rattle.sirad.specs.Rows.{characters}
@@ -8,9 +9,6 @@ use Rattle.sirad_fields.specs.Values.{fit}
 use Rattle.sirad_fields.proofs.WritingLaws.{characters-next, characters-fail, characters-over}
 use Rattle.sirad_fields.proofs.all_characters.Statement.{statement}
 use Rattle.sirad_fields.proofs.all_characters.Tie as tie
-use Rattle.sirad_fields.proofs.all_characters.Reads as reads
-use Rattle.sirad_fields.proofs.all_characters.Lts as lts
-use Rattle.sirad_fields.proofs.between.Reads as between-reads
 
 abbrev Inv-loop : tie.InvT-loop
 Inv-loop content i₀ i = (i ≤ length content) × (fit (characters (length content - i)) (drop i content) ≡ fit (characters (length content)) content)

@@ -1,9 +1,8 @@
+-- `sirad_fields::between` meets its contract.
 use borrow.Author.Tests.{le-leb, lt-leb}
 use borrow.Author.Needs.{needs}
 use Rattle.sirad_fields.proofs.between.Statement.{statement}
 use Rattle.sirad_fields.proofs.between.Tie as tie
-use Rattle.sirad_fields.proofs.between.Reads as reads
-use Rattle.sirad_fields.proofs.between.Lts as lts
 
 returns : tie.Need-returns
 returns c = search (needs, le-leb, lt-leb)

@@ -1,12 +1,9 @@
-use mathlib.Core.Path.{_≡_, refl, sym, ap, _∙_}
+-- `sirad_fields::data_refusal` meets its contract.
 use native.Mathlib.Omega.{arith}
 use Rattle.sirad_fields.proofs.WritingLaws.{kind-low, kind-high, too-many, data-accepted, data-unencoded}
 use borrow.Author.Needs.{needs}
 use Rattle.sirad_fields.proofs.data_refusal.Statement.{statement}
 use Rattle.sirad_fields.proofs.data_refusal.Tie as tie
-use Rattle.sirad_fields.proofs.data_refusal.Reads as reads
-use Rattle.sirad_fields.proofs.data_refusal.Lts as lts
-use Rattle.sirad_fields.proofs.all_characters.Reads as all-characters-reads
 
 returns : tie.Need-returns
 returns c = let a = c .before .before .args in kind-low (a .kind) (a .content .now) (c .if1 .taken)

@@ -1,12 +1,10 @@
+-- `sirad_fields::digit_of` meets its contract.
 use mathlib.Core.Path.{sym, _∙_}
 use native.Mathlib.Omega.{arith}
 use Rattle.sirad_fields.proofs.NumberLaws.{within-low, digit-figure, digit-letter, digit-none}
 use borrow.Author.Needs.{needs}
 use Rattle.sirad_fields.proofs.digit_of.Statement.{statement}
 use Rattle.sirad_fields.proofs.digit_of.Tie as tie
-use Rattle.sirad_fields.proofs.digit_of.Reads as reads
-use Rattle.sirad_fields.proofs.digit_of.Lts as lts
-use Rattle.sirad_fields.proofs.between.Reads as between-reads
 
 between-requires : tie.Need-between-requires
 between-requires c κs = search needs

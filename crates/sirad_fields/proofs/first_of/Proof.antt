@@ -1,8 +1,7 @@
+-- `sirad_fields::first_of` meets its contract.
 use Rattle.sirad_fields.proofs.WritingLaws.{first-given, first-none}
 use Rattle.sirad_fields.proofs.first_of.Statement.{statement}
 use Rattle.sirad_fields.proofs.first_of.Tie as tie
-use Rattle.sirad_fields.proofs.first_of.Reads as reads
-use Rattle.sirad_fields.proofs.first_of.Lts as lts
 
 returns : tie.Need-returns
 returns c = first-given _ _ (c .if1 .taken)

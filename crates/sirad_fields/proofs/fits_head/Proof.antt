@@ -1,10 +1,8 @@
+-- `sirad_fields::fits_head` meets its contract.
 use Rattle.sirad_fields.proofs.WritingLaws.{head-fits, head-fails}
 use borrow.Author.Needs.{needs}
 use Rattle.sirad_fields.proofs.fits_head.Statement.{statement}
 use Rattle.sirad_fields.proofs.fits_head.Tie as tie
-use Rattle.sirad_fields.proofs.fits_head.Reads as reads
-use Rattle.sirad_fields.proofs.fits_head.Lts as lts
-use Rattle.sirad_fields.proofs.between.Reads as between-reads
 
 between-requires : tie.Need-between-requires
 between-requires c κs = search needs

@@ -1,11 +1,8 @@
+-- `sirad_fields::fits_targets` meets its contract.
 use Rattle.sirad_fields.proofs.WritingLaws.{targets-fit, targets-unfit}
 use borrow.Author.Needs.{needs}
 use Rattle.sirad_fields.proofs.fits_targets.Statement.{statement}
 use Rattle.sirad_fields.proofs.fits_targets.Tie as tie
-use Rattle.sirad_fields.proofs.fits_targets.Reads as reads
-use Rattle.sirad_fields.proofs.fits_targets.Lts as lts
-use Rattle.sirad_fields.proofs.fits_blocks.Reads as fits-blocks-reads
-use Rattle.sirad_fields.proofs.fits_head.Reads as fits-head-reads
 
 fits-head-requires : tie.Need-fits-head-requires
 fits-head-requires c κs = search needs

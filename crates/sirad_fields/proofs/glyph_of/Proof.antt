@@ -1,10 +1,9 @@
+-- `sirad_fields::glyph_of` meets its contract.
 use native.Mathlib.Omega.{arith}
 use Rattle.sirad_fields.proofs.NumberLaws.{glyph-figure, glyph-letter}
 use borrow.Author.Needs.{needs}
 use Rattle.sirad_fields.proofs.glyph_of.Statement.{statement}
 use Rattle.sirad_fields.proofs.glyph_of.Tie as tie
-use Rattle.sirad_fields.proofs.glyph_of.Reads as reads
-use Rattle.sirad_fields.proofs.glyph_of.Lts as lts
 
 add-result : tie.Need-add-result
 add-result c = search needs

@@ -1,17 +1,15 @@
+-- `sirad_fields::hex_at` meets its contract. The digits left, with the number so far in front of them, give the whole number; i digits give a number below 16 ^ i.
 use mathlib.Core.Path.{_≡_, sym, _∙_}
 use Prim.Native.Nat.{_+_, _-_, _^_, _<_, _≤_}
 use native.Mathlib.Omega.{arith}
 use borrow.Author.Needs.{needs}
 use lib.Dec.{lit<}
-use lib.ListN.{length, take, drop, getD}
+use lib.ListN.{take, drop, getD}
 use Rattle.digits.specs.Hex.{hexFrom, hexAt}
 use Rattle.digits.proofs.HexLaws.{digit-small}
 use Rattle.sirad_fields.proofs.NumberLaws.{hex-room, hex-grows, hex-start, hex-next, hex-end}
 use Rattle.sirad_fields.proofs.hex_at.Statement.{statement}
 use Rattle.sirad_fields.proofs.hex_at.Tie as tie
-use Rattle.sirad_fields.proofs.hex_at.Reads as reads
-use Rattle.sirad_fields.proofs.hex_at.Lts as lts
-use Rattle.sirad_fields.proofs.digit_of.Reads as digit-of-reads
 
 abbrev Inv-loop : tie.InvT-loop
 Inv-loop s at n v₀ i₀ v i = (i ≤ n) × (v < 16 ^ i) × (hexFrom v (take (n - i) (drop (at + i) s)) ≡ hexAt n at s)

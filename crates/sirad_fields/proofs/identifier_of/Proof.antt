@@ -1,9 +1,8 @@
+-- `sirad_fields::identifier_of` meets its contract.
 use borrow.Author.Needs.{needs}
 use borrow.Author.Tests.{ne-eqb}
 use Rattle.sirad_fields.proofs.identifier_of.Statement.{statement}
 use Rattle.sirad_fields.proofs.identifier_of.Tie as tie
-use Rattle.sirad_fields.proofs.identifier_of.Reads as reads
-use Rattle.sirad_fields.proofs.identifier_of.Lts as lts
 
 returns : tie.Need-returns
 returns c = rw (c .match .keys1)

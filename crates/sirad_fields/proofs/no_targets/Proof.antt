@@ -1,10 +1,7 @@
-use mathlib.Core.Path.{refl}
+-- `sirad_fields::no_targets` meets its contract.
 use borrow.Author.Needs.{needs}
 use Rattle.sirad_fields.proofs.no_targets.Statement.{statement}
 use Rattle.sirad_fields.proofs.no_targets.Tie as tie
-use Rattle.sirad_fields.proofs.no_targets.Reads as reads
-use Rattle.sirad_fields.proofs.no_targets.Lts as lts
-use Rattle.sirad_fields.proofs.zero_target.Reads as zero-target-reads
 
 zero-target-requires : tie.Need-zero-target-requires
 zero-target-requires c κs = search needs

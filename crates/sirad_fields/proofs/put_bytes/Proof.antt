@@ -1,14 +1,12 @@
+-- `sirad_fields::put_bytes` meets its contract. Storing the bytes left gives what storing all of them gave.
 use mathlib.Core.Path.{_≡_, refl, sym, _∙_}
 use Prim.Native.Nat.{_+_, _-_, _≤_}
 use native.Mathlib.Omega.{arith}
-use borrow.Author.Needs.{needs}
-use lib.ListN.{length, drop, replicate, length-set, length-replicate, getD-replicate}
+use lib.ListN.{length, drop, length-set}
 use Rattle.digits.specs.Stores.{stored}
 use Rattle.sirad_fields.proofs.StoringLaws.{store-start, store-next, store-end}
 use Rattle.sirad_fields.proofs.put_bytes.Statement.{statement}
 use Rattle.sirad_fields.proofs.put_bytes.Tie as tie
-use Rattle.sirad_fields.proofs.put_bytes.Reads as reads
-use Rattle.sirad_fields.proofs.put_bytes.Lts as lts
 
 abbrev Inv-loop : tie.InvT-loop
 Inv-loop out₀ at bytes i₀ out i = (i ≤ length bytes) × (length out ≡ length out₀) × (stored out (at + i) (drop i bytes) ≡ stored out₀ at bytes)

@@ -1,14 +1,8 @@
+-- `sirad_fields::put_data` meets its contract.
 use Rattle.sirad_fields.proofs.FrameStores.{data-stored}
 use borrow.Author.Needs.{needs}
 use Rattle.sirad_fields.proofs.put_data.Statement.{statement}
 use Rattle.sirad_fields.proofs.put_data.Tie as tie
-use Rattle.sirad_fields.proofs.put_data.Reads as reads
-use Rattle.sirad_fields.proofs.put_data.Lts as lts
-use Rattle.sirad_fields.proofs.put_bytes.Reads as put-bytes-reads
-use Rattle.sirad_fields.proofs.put_hex.Reads as put-hex-reads
-use Rattle.sirad_fields.proofs.put_run.Reads as put-run-reads
-use Rattle.sirad_fields.proofs.put_start.Reads as put-start-reads
-use Rattle.sirad_fields.proofs.put_stop.Reads as put-stop-reads
 
 put-start-requires : tie.Need-put-start-requires
 put-start-requires c κs = search needs

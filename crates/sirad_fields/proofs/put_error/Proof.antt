@@ -1,12 +1,8 @@
+-- `sirad_fields::put_error` meets its contract.
 use Rattle.sirad_fields.proofs.FrameStores.{error-stored}
 use borrow.Author.Needs.{needs}
 use Rattle.sirad_fields.proofs.put_error.Statement.{statement}
 use Rattle.sirad_fields.proofs.put_error.Tie as tie
-use Rattle.sirad_fields.proofs.put_error.Reads as reads
-use Rattle.sirad_fields.proofs.put_error.Lts as lts
-use Rattle.sirad_fields.proofs.put_hex.Reads as put-hex-reads
-use Rattle.sirad_fields.proofs.put_start.Reads as put-start-reads
-use Rattle.sirad_fields.proofs.put_stop.Reads as put-stop-reads
 
 put-start-requires : tie.Need-put-start-requires
 put-start-requires c κs = search needs

@@ -1,12 +1,8 @@
+-- `sirad_fields::put_head` meets its contract.
 use Rattle.sirad_fields.proofs.FrameStores.{head-stored}
 use borrow.Author.Needs.{needs}
 use Rattle.sirad_fields.proofs.put_head.Statement.{statement}
 use Rattle.sirad_fields.proofs.put_head.Tie as tie
-use Rattle.sirad_fields.proofs.put_head.Reads as reads
-use Rattle.sirad_fields.proofs.put_head.Lts as lts
-use Rattle.sirad_fields.proofs.put_hex.Reads as put-hex-reads
-use Rattle.sirad_fields.proofs.put_run.Reads as put-run-reads
-use Rattle.sirad_fields.proofs.put_start.Reads as put-start-reads
 
 put-start-requires : tie.Need-put-start-requires
 put-start-requires c κs = search needs

@@ -1,5 +1,6 @@
+-- `sirad_fields::put_hex` meets its contract. Storing the digits left gives what storing all of them gave.
 use mathlib.Core.Path.{_≡_, refl, sym, _∙_}
-use Prim.Native.Nat.{_+_, _-_, _≤_}
+use Prim.Native.Nat.{_-_, _≤_}
 use native.Mathlib.Omega.{arith}
 use lib.ListN.{length, length-set}
 use Rattle.digits.specs.Hex.{hexDigits}
@@ -7,9 +8,6 @@ use Rattle.digits.specs.Stores.{stored}
 use Rattle.sirad_fields.proofs.StoringLaws.{digit-next, digit-end}
 use Rattle.sirad_fields.proofs.put_hex.Statement.{statement}
 use Rattle.sirad_fields.proofs.put_hex.Tie as tie
-use Rattle.sirad_fields.proofs.put_hex.Reads as reads
-use Rattle.sirad_fields.proofs.put_hex.Lts as lts
-use Rattle.sirad_fields.proofs.glyph_of.Reads as glyph-of-reads
 
 abbrev Inv-loop : tie.InvT-loop
 Inv-loop out₀ at n v rest₀ i₀ out rest i = (i ≤ n) × (length out ≡ length out₀) × (stored out at (hexDigits i rest) ≡ stored out₀ at (hexDigits n v))

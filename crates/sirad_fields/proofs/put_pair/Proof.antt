@@ -1,12 +1,10 @@
-use mathlib.Core.Path.{_≡_, refl, sym, ap, _∙_}
+-- `sirad_fields::put_pair` meets its contract.
 use native.Mathlib.Omega.{arith}
 use lib.ListN.{length-set}
 use Rattle.sirad_fields.proofs.FrameStores.{pair-stored}
 use borrow.Author.Needs.{needs}
 use Rattle.sirad_fields.proofs.put_pair.Statement.{statement}
 use Rattle.sirad_fields.proofs.put_pair.Tie as tie
-use Rattle.sirad_fields.proofs.put_pair.Reads as reads
-use Rattle.sirad_fields.proofs.put_pair.Lts as lts
 
 slice-write-out : tie.Need-slice-write-out
 slice-write-out c = search needs

@@ -1,14 +1,12 @@
+-- `sirad_fields::put_run` meets its contract. Storing the bytes left gives what storing all of them gave.
 use mathlib.Core.Path.{_≡_, refl, sym, _∙_}
 use Prim.Native.Nat.{_+_, _-_, _≤_}
 use native.Mathlib.Omega.{arith}
-use borrow.Author.Needs.{needs}
 use lib.ListN.{length, drop, replicate, length-set, length-replicate, getD-replicate}
 use Rattle.digits.specs.Stores.{stored}
 use Rattle.sirad_fields.proofs.StoringLaws.{store-start, store-next, store-end}
 use Rattle.sirad_fields.proofs.put_run.Statement.{statement}
 use Rattle.sirad_fields.proofs.put_run.Tie as tie
-use Rattle.sirad_fields.proofs.put_run.Reads as reads
-use Rattle.sirad_fields.proofs.put_run.Lts as lts
 
 abbrev Inv-loop : tie.InvT-loop
 Inv-loop out₀ at n b i₀ out i = (i ≤ n) × (length out ≡ length out₀) × (stored out (at + i) (drop i (replicate n b)) ≡ stored out₀ at (replicate n b))

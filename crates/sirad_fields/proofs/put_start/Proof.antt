@@ -1,15 +1,11 @@
-use mathlib.Core.Path.{_≡_, refl, sym, ap, _∙_}
-use native.Mathlib.Omega.{arith}
+-- `sirad_fields::put_start` meets its contract.
+use mathlib.Core.Path.{ap, _∙_}
 use mathlib.Core.List.{[], _∷_}
 use Prim.Native.Nat.{ℕ}
 use Rattle.digits.specs.Stores.{stored}
 use borrow.Author.Needs.{needs}
 use Rattle.sirad_fields.proofs.put_start.Statement.{statement}
 use Rattle.sirad_fields.proofs.put_start.Tie as tie
-use Rattle.sirad_fields.proofs.put_start.Reads as reads
-use Rattle.sirad_fields.proofs.put_start.Lts as lts
-use Rattle.sirad_fields.proofs.identifier_of.Reads as identifier-of-reads
-use Rattle.sirad_fields.proofs.put_pair.Reads as put-pair-reads
 
 identifier-of-requires : tie.Need-identifier-of-requires
 identifier-of-requires c κs = search needs

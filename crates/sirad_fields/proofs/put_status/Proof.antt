@@ -1,12 +1,8 @@
+-- `sirad_fields::put_status` meets its contract.
 use Rattle.sirad_fields.proofs.FrameStores.{status-stored}
 use borrow.Author.Needs.{needs}
 use Rattle.sirad_fields.proofs.put_status.Statement.{statement}
 use Rattle.sirad_fields.proofs.put_status.Tie as tie
-use Rattle.sirad_fields.proofs.put_status.Reads as reads
-use Rattle.sirad_fields.proofs.put_status.Lts as lts
-use Rattle.sirad_fields.proofs.put_head.Reads as put-head-reads
-use Rattle.sirad_fields.proofs.put_hex.Reads as put-hex-reads
-use Rattle.sirad_fields.proofs.put_stop.Reads as put-stop-reads
 
 put-head-requires : tie.Need-put-head-requires
 put-head-requires c κs = search needs

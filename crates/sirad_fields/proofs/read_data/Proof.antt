@@ -1,14 +1,9 @@
-use mathlib.Core.Path.{_≡_, refl, sym, ap, _∙_}
+-- `sirad_fields::read_data` meets its contract.
 use native.Mathlib.Omega.{arith}
 use Rattle.sirad_fields.proofs.ReadingLaws.{halted-kind, other-size, same-size, data-low, data-high, data-length, data-made}
 use borrow.Author.Needs.{needs}
 use Rattle.sirad_fields.proofs.read_data.Statement.{statement}
 use Rattle.sirad_fields.proofs.read_data.Tie as tie
-use Rattle.sirad_fields.proofs.read_data.Reads as reads
-use Rattle.sirad_fields.proofs.read_data.Lts as lts
-use Rattle.sirad.proofs.judge.Reads as judge-reads
-use Rattle.sirad_fields.proofs.hex_at.Reads as hex-at-reads
-use Rattle.sirad_fields.proofs.no_data.Reads as no-data-reads
 
 judge-requires : tie.Need-judge-requires
 judge-requires c κs = search needs

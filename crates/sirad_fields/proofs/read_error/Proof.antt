@@ -1,14 +1,10 @@
-use mathlib.Core.Path.{_≡_, refl, sym, ap, _∙_}
+-- `sirad_fields::read_error` meets its contract.
+use mathlib.Core.Path.{_∙_}
 use native.Mathlib.Omega.{arith}
 use Rattle.sirad_fields.proofs.ReadingLaws.{halted-kind, other-size, same-size, error-refused, error-length, error-made}
 use borrow.Author.Needs.{needs}
 use Rattle.sirad_fields.proofs.read_error.Statement.{statement}
 use Rattle.sirad_fields.proofs.read_error.Tie as tie
-use Rattle.sirad_fields.proofs.read_error.Reads as reads
-use Rattle.sirad_fields.proofs.read_error.Lts as lts
-use Rattle.sirad.proofs.judge.Reads as judge-reads
-use Rattle.sirad_fields.proofs.hex_at.Reads as hex-at-reads
-use Rattle.sirad_fields.proofs.no_error.Reads as no-error-reads
 
 judge-requires : tie.Need-judge-requires
 judge-requires c κs = search needs

@@ -1,14 +1,10 @@
-use mathlib.Core.Path.{_≡_, refl, sym, ap, _∙_}
+-- `sirad_fields::read_status` meets its contract.
+use mathlib.Core.Path.{_∙_}
 use native.Mathlib.Omega.{arith}
 use Rattle.sirad_fields.proofs.ReadingLaws.{halted-kind, other-size, same-size, status-refused, status-length, status-read}
 use borrow.Author.Needs.{needs}
 use Rattle.sirad_fields.proofs.read_status.Statement.{statement}
 use Rattle.sirad_fields.proofs.read_status.Tie as tie
-use Rattle.sirad_fields.proofs.read_status.Reads as reads
-use Rattle.sirad_fields.proofs.read_status.Lts as lts
-use Rattle.sirad.proofs.judge.Reads as judge-reads
-use Rattle.sirad_fields.proofs.no_status.Reads as no-status-reads
-use Rattle.sirad_fields.proofs.status_frame.Reads as status-frame-reads
 
 judge-requires : tie.Need-judge-requires
 judge-requires c κs = search needs

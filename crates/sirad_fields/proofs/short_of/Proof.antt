@@ -1,8 +1,7 @@
+-- `sirad_fields::short_of` meets its contract.
 use Rattle.sirad_fields.proofs.WritingLaws.{is-short, not-short}
 use Rattle.sirad_fields.proofs.short_of.Statement.{statement}
 use Rattle.sirad_fields.proofs.short_of.Tie as tie
-use Rattle.sirad_fields.proofs.short_of.Reads as reads
-use Rattle.sirad_fields.proofs.short_of.Lts as lts
 
 returns : tie.Need-returns
 returns c = is-short _ _ (c .if1 .taken)

@@ -1,14 +1,10 @@
-use mathlib.Core.Path.{_≡_, refl, sym, ap, _∙_}
+-- `sirad_fields::status_frame` meets its contract.
 use native.Mathlib.Omega.{arith}
 use Rattle.digits.proofs.HexLaws.{hex-at-below}
 use Rattle.sirad_fields.proofs.ReadingLaws.{status-made}
 use borrow.Author.Needs.{needs}
 use Rattle.sirad_fields.proofs.status_frame.Statement.{statement}
 use Rattle.sirad_fields.proofs.status_frame.Tie as tie
-use Rattle.sirad_fields.proofs.status_frame.Reads as reads
-use Rattle.sirad_fields.proofs.status_frame.Lts as lts
-use Rattle.sirad_fields.proofs.hex_at.Reads as hex-at-reads
-use Rattle.units.proofs.accuracy_to_millimetres.Reads as accuracy-to-millimetres-reads
 
 hex-at-requires : tie.Need-hex-at-requires
 hex-at-requires c κs = search needs

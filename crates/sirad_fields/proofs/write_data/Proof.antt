@@ -1,5 +1,4 @@
-use mathlib.Core.Path.{_≡_, refl, sym, ap, _∙_}
-use native.Mathlib.Omega.{arith}
+-- `sirad_fields::write_data` meets its contract.
 use Prim.Native.Nat.{_+_}
 use lib.ListN.{length}
 use Rattle.sirad_fields.specs.Fields.{dataRefusal, dataBytes}
@@ -9,12 +8,6 @@ use Rattle.sirad_fields.proofs.WritingLaws.{none-refused, all-written, 
 use borrow.Author.Needs.{needs}
 use Rattle.sirad_fields.proofs.write_data.Statement.{statement}
 use Rattle.sirad_fields.proofs.write_data.Tie as tie
-use Rattle.sirad_fields.proofs.write_data.Reads as reads
-use Rattle.sirad_fields.proofs.write_data.Lts as lts
-use Rattle.sirad_fields.proofs.data_refusal.Reads as data-refusal-reads
-use Rattle.sirad_fields.proofs.first_of.Reads as first-of-reads
-use Rattle.sirad_fields.proofs.put_data.Reads as put-data-reads
-use Rattle.sirad_fields.proofs.short_of.Reads as short-of-reads
 
 data-refusal-requires : tie.Need-data-refusal-requires
 data-refusal-requires c κs = search needs

@@ -1,4 +1,5 @@
-use mathlib.Core.Path.{_≡_, refl, sym, ap, _∙_}
+-- `sirad_fields::write_error` meets its contract.
+use mathlib.Core.Path.{refl, sym}
 use native.Mathlib.Omega.{arith}
 use Rattle.sirad_fields.specs.Fields.{errorRefusal, errorBytes}
 use Rattle.sirad_fields.proofs.FrameStores.{error-size}
@@ -6,10 +7,6 @@ use Rattle.sirad_fields.proofs.WritingLaws.{none-refused, all-written, 
 use borrow.Author.Needs.{needs}
 use Rattle.sirad_fields.proofs.write_error.Statement.{statement}
 use Rattle.sirad_fields.proofs.write_error.Tie as tie
-use Rattle.sirad_fields.proofs.write_error.Reads as reads
-use Rattle.sirad_fields.proofs.write_error.Lts as lts
-use Rattle.sirad_fields.proofs.put_error.Reads as put-error-reads
-use Rattle.sirad_fields.proofs.short_of.Reads as short-of-reads
 
 short-of-requires : tie.Need-short-of-requires
 short-of-requires c κs = search needs

@@ -1,4 +1,5 @@
-use mathlib.Core.Path.{_≡_, refl, sym, ap, _∙_}
+-- `sirad_fields::write_status` meets its contract.
+use mathlib.Core.Path.{sym, ap, _∙_}
 use native.Mathlib.Omega.{arith}
 use Rattle.sirad_fields.specs.Fields.{unencoded, statusNumbers, statusRefusal, statusBytes}
 use Rattle.sirad_fields.proofs.FrameStores.{status-size}
@@ -6,13 +7,6 @@ use Rattle.sirad_fields.proofs.WritingLaws.{none-refused, all-written, 
 use borrow.Author.Needs.{needs}
 use Rattle.sirad_fields.proofs.write_status.Statement.{statement}
 use Rattle.sirad_fields.proofs.write_status.Tie as tie
-use Rattle.sirad_fields.proofs.write_status.Reads as reads
-use Rattle.sirad_fields.proofs.write_status.Lts as lts
-use Rattle.sirad_fields.proofs.first_of.Reads as first-of-reads
-use Rattle.sirad_fields.proofs.fits_head.Reads as fits-head-reads
-use Rattle.sirad_fields.proofs.put_status.Reads as put-status-reads
-use Rattle.sirad_fields.proofs.short_of.Reads as short-of-reads
-use Rattle.sirad_fields.proofs.unencoded_unless.Reads as unencoded-unless-reads
 
 fits-head-requires : tie.Need-fits-head-requires
 fits-head-requires c κs = search needs

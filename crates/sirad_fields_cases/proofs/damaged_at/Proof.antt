@@ -1,3 +1,4 @@
+-- `sirad_fields_cases::damaged_at` is safe and ends.
 use borrow.Author.Needs.{needs}
 use Prim.Native.Nat.{_-_, _≤_}
 use mathlib.Core.Path.{_≡_}
@@ -5,10 +6,6 @@ use native.Mathlib.Omega.{arith}
 use lib.ListN.{length, length-set}
 use Rattle.sirad_fields_cases.proofs.damaged_at.Statement.{statement}
 use Rattle.sirad_fields_cases.proofs.damaged_at.Tie as tie
-use Rattle.sirad_fields_cases.proofs.damaged_at.Reads as reads
-use Rattle.sirad_fields_cases.proofs.damaged_at.Lts as lts
-use Rattle.sirad_fields_cases.proofs.mixed.Reads as mixed-reads
-use Rattle.sirad_fields_cases.proofs.read_sum.Reads as read-sum-reads
 
 abbrev Inv-loop : tie.InvT-loop
 Inv-loop s₀ at kind before sum₀ kept values i₀ s sum i = (length s ≡ length s₀) × (i ≤ 15)

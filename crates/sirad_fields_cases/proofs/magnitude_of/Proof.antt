@@ -1,9 +1,8 @@
+-- `sirad_fields_cases::magnitude_of` is safe and ends.
 use Rattle.sirad_fields.proofs.NumberLaws.{negative-fits, negative-cast, positive-cast}
 use borrow.Author.Needs.{needs}
 use Rattle.sirad_fields_cases.proofs.magnitude_of.Statement.{statement}
 use Rattle.sirad_fields_cases.proofs.magnitude_of.Tie as tie
-use Rattle.sirad_fields_cases.proofs.magnitude_of.Reads as reads
-use Rattle.sirad_fields_cases.proofs.magnitude_of.Lts as lts
 
 -- src/main.rt:69:18
 sub-k : tie.Need-sub-k

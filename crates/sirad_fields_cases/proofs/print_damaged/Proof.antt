@@ -1,3 +1,4 @@
+-- `sirad_fields_cases::print_damaged` is safe and ends.
 use borrow.Author.Needs.{needs}
 use Prim.Native.Nat.{_-_, _≤_}
 use mathlib.Core.Path.{_≡_}
@@ -5,12 +6,6 @@ use native.Mathlib.Omega.{arith}
 use lib.ListN.{length}
 use Rattle.sirad_fields_cases.proofs.print_damaged.Statement.{statement}
 use Rattle.sirad_fields_cases.proofs.print_damaged.Tie as tie
-use Rattle.sirad_fields_cases.proofs.print_damaged.Reads as reads
-use Rattle.sirad_fields_cases.proofs.print_damaged.Lts as lts
-use Rattle.sirad_fields_cases.proofs.damaged_at.Reads as damaged-at-reads
-use Rattle.sirad_fields_cases.proofs.end_line.Reads as end-line-reads
-use Rattle.sirad_fields_cases.proofs.print_field.Reads as print-field-reads
-use Rattle.sirad_fields_cases.proofs.start_line.Reads as start-line-reads
 
 abbrev Inv-loop : tie.InvT-loop
 Inv-loop name kind s₀ sum₀ at₀ t6 s sum at = (at ≤ length s) × (length s ≡ length s₀)

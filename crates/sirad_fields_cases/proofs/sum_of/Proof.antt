@@ -1,14 +1,10 @@
+-- `sirad_fields_cases::sum_of` is safe and ends.
 use borrow.Author.Needs.{needs}
 use Prim.Native.Nat.{_-_, _≤_}
-use mathlib.Core.Path.{_≡_}
 use native.Mathlib.Omega.{arith}
 use lib.ListN.{length}
 use Rattle.sirad_fields_cases.proofs.sum_of.Statement.{statement}
 use Rattle.sirad_fields_cases.proofs.sum_of.Tie as tie
-use Rattle.sirad_fields_cases.proofs.sum_of.Reads as reads
-use Rattle.sirad_fields_cases.proofs.sum_of.Lts as lts
-use Rattle.sirad_fields_cases.proofs.mixed.Reads as mixed-reads
-use Rattle.sirad_fields_cases.proofs.wide.Reads as wide-reads
 
 abbrev Inv-loop : tie.InvT-loop
 Inv-loop s sum₀ i₀ sum i = i ≤ length s

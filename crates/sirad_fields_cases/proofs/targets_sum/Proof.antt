@@ -1,13 +1,9 @@
+-- `sirad_fields_cases::targets_sum` is safe and ends.
 use borrow.Author.Needs.{needs}
 use Prim.Native.Nat.{_-_, _≤_}
 use native.Mathlib.Omega.{arith}
-use lib.ListN.{length}
 use Rattle.sirad_fields_cases.proofs.targets_sum.Statement.{statement}
 use Rattle.sirad_fields_cases.proofs.targets_sum.Tie as tie
-use Rattle.sirad_fields_cases.proofs.targets_sum.Reads as reads
-use Rattle.sirad_fields_cases.proofs.targets_sum.Lts as lts
-use Rattle.sirad_fields_cases.proofs.mixed.Reads as mixed-reads
-use Rattle.sirad_fields_cases.proofs.target_sum.Reads as target-sum-reads
 
 abbrev Inv-loop : tie.InvT-loop
 Inv-loop sum₀ targets i₀ sum i = i ≤ 16
