@@ -1,22 +1,18 @@
+-- `capture::dialect_of` meets its contract. One literal for each dialect.
 use borrow.Author.Needs.{needs}
 use borrow.Author.Tests.{eq-eqb, ne-eqb}
 use Rattle.capture.specs.Dialects.{dialectOf}
 use Rattle.capture.proofs.dialect_of.Statement.{statement}
 use Rattle.capture.proofs.dialect_of.Tie as tie
-use Rattle.capture.proofs.dialect_of.Reads as reads
-use Rattle.capture.proofs.dialect_of.Lts as lts
 
--- src/lib.rt:47:1
 returns : tie.Need-returns
 unfolding dialectOf
 returns c = rw (c .match .keys1)
 
--- src/lib.rt:47:1
 returns-2 : tie.Need-returns-2
 unfolding dialectOf
 returns-2 c = rw (c .match .keys2)
 
--- src/lib.rt:47:1
 returns-3 : tie.Need-returns-3
 unfolding dialectOf
 returns-3 c = search (needs, eq-eqb, ne-eqb)

@@ -1,3 +1,4 @@
+-- `capture::find` meets its contract. The bytes passed so far are clear of the mark.
 use borrow.Author.Needs.{needs}
 use native.Mathlib.Omega.{arith}
 use Prim.Native.Nat.{_≤_, _-_}
@@ -6,10 +7,6 @@ use Rattle.capture.specs.Scan.{Clear}
 use Rattle.capture.proofs.Laws.{clear-join}
 use Rattle.capture.proofs.find.Statement.{statement}
 use Rattle.capture.proofs.find.Tie as tie
-use Rattle.capture.proofs.find.Reads as reads
-use Rattle.capture.proofs.find.Lts as lts
-use Rattle.capture.proofs.few.Reads as few-reads
-use Rattle.capture.proofs.misses.Reads as misses-reads
 
 abbrev Inv-loop : tie.InvT-loop
 Inv-loop bytes from mark near at₀ at = (from ≤ at) × (at ≤ length bytes) × Clear mark from at bytes
@@ -17,55 +14,42 @@ Inv-loop bytes from mark near at₀ at = (from ≤ at) × (at ≤ length bytes) 
 abbrev μ-loop : tie.MeasureT-loop
 μ-loop bytes from mark near at₀ at = length bytes - at
 
--- src/lib.rt:153:9
 few-requires : tie.Need-few-requires Inv-loop μ-loop
 few-requires c κs = search needs
 
--- src/lib.rt:154:8
 sub-if1 : tie.Need-sub-if1 Inv-loop μ-loop
 sub-if1 c = omega (arith, c .few .ensures .0)
 
--- src/lib.rt:155:9
 returns : tie.Need-returns Inv-loop μ-loop
 returns c = c .before .few .ensures
 
--- src/lib.rt:158:5
 loop-holds : tie.Need-loop-holds Inv-loop μ-loop
 loop-holds c = c .before .few .ensures
 
--- src/lib.rt:158:17
 sub-loop : tie.Need-sub-loop Inv-loop μ-loop
 sub-loop c = search needs
 
--- src/lib.rt:159:13
 misses-requires : tie.Need-misses-requires Inv-loop μ-loop
 misses-requires c κs = search needs
 
--- src/lib.rt:161:18
 add-at : tie.Need-add-at Inv-loop μ-loop
 add-at c = search needs
 
--- src/lib.rt:158:5
 loop-less : tie.Need-loop-less Inv-loop μ-loop
 loop-less c = search needs
 
--- src/lib.rt:158:5
 loop-again : tie.Need-loop-again Inv-loop μ-loop
 loop-again c = (omega arith, omega arith, clear-join _ _ _ _ _ (c .before .before .before .loop .inv .2) (c .before .misses .ensures (c .if2 .taken)))
 
--- src/lib.rt:163:13
 few-requires-2 : tie.Need-few-requires-2 Inv-loop μ-loop
 few-requires-2 c κs = search needs
 
--- src/lib.rt:163:13
 returns-2 : tie.Need-returns-2 Inv-loop μ-loop
 returns-2 c = let f = c .few2 .ensures in let l = c .before .before .before .before .loop .inv in (omega arith, f .1, clear-join _ _ _ _ _ (l .2) (f .2))
 
--- src/lib.rt:166:5
 few-requires-3 : tie.Need-few-requires-3 Inv-loop μ-loop
 few-requires-3 c κs = search needs
 
--- src/lib.rt:149:1
 returns-3 : tie.Need-returns-3 Inv-loop μ-loop
 returns-3 c = let f = c .few3 .ensures in let l = c .before .before .loop .inv in (omega arith, f .1, clear-join _ _ _ _ _ (l .2) (f .2))
 

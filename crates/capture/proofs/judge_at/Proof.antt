@@ -1,35 +1,25 @@
-use Rattle.capture.proofs.Laws.{judges-at, unknown-refused}
-use Rattle.capture.proofs.Laws.{judges-at}
-use mathlib.Core.Path.{sym, refl, _∙_}
+-- `capture::judge_at` meets its contract.
+use mathlib.Core.Path.{sym, _∙_}
 use borrow.Author.Needs.{needs}
+use Rattle.capture.proofs.Laws.{judges-at, unknown-refused}
 use Rattle.capture.proofs.judge_at.Statement.{statement}
 use Rattle.capture.proofs.judge_at.Tie as tie
-use Rattle.capture.proofs.judge_at.Reads as reads
-use Rattle.capture.proofs.judge_at.Lts as lts
-use Rattle.capture.proofs.dialect_of.Reads as dialect-of-reads
-use Rattle.capture.proofs.judge_known.Reads as judge-known-reads
 
--- src/lib.rt:101:11
 dialect-of-requires : tie.Need-dialect-of-requires
 dialect-of-requires c κs = search needs
 
--- src/lib.rt:102:22
 enum-known-d : tie.Need-enum-known-d
 enum-known-d c = search needs
 
--- src/lib.rt:102:28
 judge-known-requires : tie.Need-judge-known-requires
 judge-known-requires c κs = search needs
 
--- src/lib.rt:103:27
 enum-told : tie.Need-enum-told
 enum-told c = search needs
 
--- src/lib.rt:98:1
 returns : tie.Need-returns
 returns c = judges-at _ _ _ _ _ (sym (c .before .before .d .given .1) ∙ c .before .before .before .before .dialect-of .ensures) (c .judge-known .ensures)
 
--- src/lib.rt:98:1
 returns-2 : tie.Need-returns-2
 returns-2 c = judges-at _ _ _ _ _ (sym (c .enum-told .given .1) ∙ c .before .before .dialect-of .ensures) (unknown-refused _ _)
 

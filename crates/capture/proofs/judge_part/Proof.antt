@@ -1,34 +1,25 @@
-use Rattle.capture.specs.Dialects.{formOf}
+-- `capture::judge_part` meets its contract. One arm for each dialect.
 use borrow.Author.Needs.{needs}
+use Rattle.capture.specs.Dialects.{formOf}
 use Rattle.capture.proofs.judge_part.Statement.{statement}
 use Rattle.capture.proofs.judge_part.Tie as tie
-use Rattle.capture.proofs.judge_part.Reads as reads
-use Rattle.capture.proofs.judge_part.Lts as lts
-use Rattle.mmwave.proofs.judge.Reads as judge-reads
-use Rattle.sirad.proofs.judge.Reads as judge-reads′
 
--- src/lib.rt:70:27
 enum-told : tie.Need-enum-told
 enum-told c = search needs
 
--- src/lib.rt:70:27
 judge-requires : tie.Need-judge-requires
 judge-requires c κs = search needs
 
--- src/lib.rt:71:28
 enum-told-2 : tie.Need-enum-told-2
 enum-told-2 c = search needs
 
--- src/lib.rt:71:28
 judge-requires-2 : tie.Need-judge-requires-2
 judge-requires-2 c κs = search needs
 
--- src/lib.rt:66:1
 returns : tie.Need-returns
 unfolding formOf
 returns c = rw (c .before .enum-told .given .1) (c .judge .ensures)
 
--- src/lib.rt:66:1
 returns-2 : tie.Need-returns-2
 unfolding formOf
 returns-2 c = rw (c .before .enum-told2 .given .1) (c .judge2 .ensures)

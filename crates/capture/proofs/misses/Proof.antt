@@ -1,19 +1,14 @@
-use Rattle.capture.proofs.Laws.{misses-next}
-use mathlib.Core.Path.{subst}
-use Prim.Native.Nat.{ℕ}
+-- `capture::misses` meets its contract. While the flag is true, the bytes passed so far are clear of the mark.
+use mathlib.Core.Path.{subst, _≡_}
+use Prim.Native.Nat.{ℕ, _≤_, _-_, _+_}
 use borrow.Author.Needs.{needs}
 use native.Mathlib.Omega.{arith}
 use native.Mathlib.Nat.{add-zero}
-use mathlib.Core.Path.{_≡_}
 use mathlib.Core.Bool.{true}
-use Prim.Native.Nat.{_≤_, _-_, _+_}
+use Rattle.capture.proofs.Laws.{misses-next, clear-none}
 use Rattle.capture.specs.Scan.{Clear}
-use Rattle.capture.proofs.Laws.{clear-none, clear-join, clear-one}
 use Rattle.capture.proofs.misses.Statement.{statement}
 use Rattle.capture.proofs.misses.Tie as tie
-use Rattle.capture.proofs.misses.Reads as reads
-use Rattle.capture.proofs.misses.Lts as lts
-use Rattle.capture.proofs.both.Reads as both-reads
 
 abbrev Inv-loop : tie.InvT-loop
 Inv-loop bytes from n mark ok₀ i₀ ok i = (i ≤ n) × (ok ≡ true → Clear mark from (from + i) bytes)
@@ -21,36 +16,28 @@ Inv-loop bytes from n mark ok₀ i₀ ok i = (i ≤ n) × (ok ≡ true → Clear
 abbrev μ-loop : tie.MeasureT-loop
 μ-loop bytes from n mark ok₀ i₀ ok i = n - i
 
--- src/lib.rt:116:5
 loop-holds : tie.Need-loop-holds Inv-loop μ-loop
 loop-holds c = (omega arith, λ e. rw add-zero (clear-none _ _ _))
 
--- src/lib.rt:117:23
 add-t : tie.Need-add-t Inv-loop μ-loop
 add-t c = search needs
 
--- src/lib.rt:117:17
 shared-slice-read-t : tie.Need-shared-slice-read-t Inv-loop μ-loop
 shared-slice-read-t c = search needs
 
--- src/lib.rt:118:9
 both-requires : tie.Need-both-requires Inv-loop μ-loop
 both-requires c κs = search needs
 
--- src/lib.rt:119:13
 add-i : tie.Need-add-i Inv-loop μ-loop
 add-i c = search needs
 
--- src/lib.rt:116:5
 loop-less : tie.Need-loop-less Inv-loop μ-loop
 loop-less c = search needs
 
--- src/lib.rt:116:5
 loop-again : tie.Need-loop-again Inv-loop μ-loop
 loop-again c = let l = c .before .before .before .loop in let a = c .before .before .before .before .before .args in
     (omega arith, misses-next (a .mark) (a .from) (l .i) (a .bytes .now) (l .ok) (c .both .result) (l .inv .1) (c .both .ensures))
 
--- src/lib.rt:110:1
 returns : tie.Need-returns Inv-loop μ-loop
 returns c = let l = c .before .loop in let a = c .before .before .before .args in let e : l .i ≡ a .n = omega arith in
     subst (λ (i : ℕ). l .ok ≡ true → Clear (a .mark) (a .from) (a .from + i) (a .bytes .now)) e (l .inv .1)

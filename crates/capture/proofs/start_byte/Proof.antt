@@ -1,24 +1,19 @@
-use Rattle.capture.specs.Dialects.{startOf}
+-- `capture::start_byte` meets its contract. One arm for each dialect.
 use borrow.Author.Needs.{needs}
+use Rattle.capture.specs.Dialects.{startOf}
 use Rattle.capture.proofs.start_byte.Statement.{statement}
 use Rattle.capture.proofs.start_byte.Tie as tie
-use Rattle.capture.proofs.start_byte.Reads as reads
-use Rattle.capture.proofs.start_byte.Lts as lts
 
--- src/lib.rt:61:27
 enum-told : tie.Need-enum-told
 enum-told c = search needs
 
--- src/lib.rt:62:28
 enum-told-2 : tie.Need-enum-told-2
 enum-told-2 c = search needs
 
--- src/lib.rt:57:1
 returns : tie.Need-returns
 unfolding startOf
 returns c = rw (c .enum-told .given .1)
 
--- src/lib.rt:57:1
 returns-2 : tie.Need-returns-2
 unfolding startOf
 returns-2 c = rw (c .enum-told2 .given .1)

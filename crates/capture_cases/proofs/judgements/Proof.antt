@@ -1,13 +1,9 @@
+-- `capture_cases::judgements` meets its contract.
 use lib.ListN.{length}
 use Prim.Native.Nat.{_≤_, _-_}
 use borrow.Author.Needs.{needs}
 use Rattle.capture_cases.proofs.judgements.Statement.{statement}
 use Rattle.capture_cases.proofs.judgements.Tie as tie
-use Rattle.capture_cases.proofs.judgements.Reads as reads
-use Rattle.capture_cases.proofs.judgements.Lts as lts
-use Rattle.capture.proofs.judge_at.Reads as judge-at-reads
-use Rattle.capture_cases.proofs.text.Reads as text-reads
-use Rattle.capture_cases.proofs.verdict.Reads as verdict-reads
 
 abbrev Inv-loop : tie.InvT-loop
 Inv-loop dialect bytes at₀ t5 at = at ≤ length bytes
@@ -15,63 +11,48 @@ Inv-loop dialect bytes at₀ t5 at = at ≤ length bytes
 abbrev μ-loop : tie.MeasureT-loop
 μ-loop dialect bytes at₀ t5 at = length bytes - at
 
--- src/main.rt:116:10
 slice-aggregate-text : tie.Need-slice-aggregate-text Inv-loop μ-loop
 slice-aggregate-text c = search needs
 
--- src/main.rt:116:5
 text-requires : tie.Need-text-requires Inv-loop μ-loop
 text-requires c κs = search needs
 
--- src/main.rt:118:5
 loop-holds : tie.Need-loop-holds Inv-loop μ-loop
 loop-holds c = search needs
 
--- src/main.rt:119:17
 judge-at-requires : tie.Need-judge-at-requires Inv-loop μ-loop
 judge-at-requires c κs = search needs
 
--- src/main.rt:119:9
 verdict-requires : tie.Need-verdict-requires Inv-loop μ-loop
 verdict-requires c κs = search needs
 
--- src/main.rt:120:14
 add-at : tie.Need-add-at Inv-loop μ-loop
 add-at c = search needs
 
--- src/main.rt:118:5
 loop-less : tie.Need-loop-less Inv-loop μ-loop
 loop-less c = search needs
 
--- src/main.rt:118:5
 loop-again : tie.Need-loop-again Inv-loop μ-loop
 loop-again c = search needs
 
--- src/main.rt:122:13
 judge-at-requires-2 : tie.Need-judge-at-requires-2 Inv-loop μ-loop
 judge-at-requires-2 c κs = search needs
 
--- src/main.rt:122:5
 verdict-requires-2 : tie.Need-verdict-requires-2 Inv-loop μ-loop
 verdict-requires-2 c κs = search needs
 
--- src/main.rt:123:13
 judge-at-requires-3 : tie.Need-judge-at-requires-3 Inv-loop μ-loop
 judge-at-requires-3 c κs = search needs
 
--- src/main.rt:123:5
 verdict-requires-3 : tie.Need-verdict-requires-3 Inv-loop μ-loop
 verdict-requires-3 c κs = search needs
 
--- src/main.rt:124:10
 slice-aggregate-text-2 : tie.Need-slice-aggregate-text-2 Inv-loop μ-loop
 slice-aggregate-text-2 c = search needs
 
--- src/main.rt:124:5
 text-requires-2 : tie.Need-text-requires-2 Inv-loop μ-loop
 text-requires-2 c κs = search needs
 
--- src/main.rt:115:1
 returns : tie.Need-returns Inv-loop μ-loop
 returns c = search needs
 

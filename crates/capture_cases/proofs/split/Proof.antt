@@ -1,133 +1,95 @@
+-- `capture_cases::split` meets its contract.
 use lib.Seq.{length-take-le}
 use mathlib.Core.Path.{sym}
 use native.Mathlib.Omega.{arith}
 use borrow.Author.Needs.{needs}
 use Rattle.capture_cases.proofs.split.Statement.{statement}
 use Rattle.capture_cases.proofs.split.Tie as tie
-use Rattle.capture_cases.proofs.split.Reads as reads
-use Rattle.capture_cases.proofs.split.Lts as lts
-use Rattle.capture.proofs.choose_line.Reads as choose-line-reads
-use Rattle.capture.proofs.choose_part.Reads as choose-part-reads
-use Rattle.capture.proofs.open_reading.Reads as open-reading-reads
-use Rattle.capture_cases.proofs.answer.Reads as answer-reads
-use Rattle.capture_cases.proofs.field.Reads as field-reads
-use Rattle.capture_cases.proofs.row_sum.Reads as row-sum-reads
-use Rattle.capture_cases.proofs.shown_part.Reads as shown-part-reads
-use Rattle.capture_cases.proofs.text.Reads as text-reads
 
--- src/main.rt:186:9
 returns : tie.Need-returns
 returns c = search needs
 
--- src/main.rt:190:44
 slice-aggregate-open-reading : tie.Need-slice-aggregate-open-reading
 slice-aggregate-open-reading c = let a = c .before .before .before .args in sym (length-take-le (a .k) (a .bytes .now) (omega arith))
 
--- src/main.rt:190:57
 slice-aggregate-open-reading-2 : tie.Need-slice-aggregate-open-reading-2
 slice-aggregate-open-reading-2 c = search needs
 
--- src/main.rt:190:9
 open-reading-requires : tie.Need-open-reading-requires
 open-reading-requires c κs = search needs
 
--- src/main.rt:191:51
 slice-aggregate-open-reading-3 : tie.Need-slice-aggregate-open-reading-3
 slice-aggregate-open-reading-3 c = search needs
 
--- src/main.rt:191:9
 open-reading-requires-2 : tie.Need-open-reading-requires-2
 open-reading-requires-2 c κs = search needs
 
--- src/main.rt:193:10
 slice-aggregate-text : tie.Need-slice-aggregate-text
 slice-aggregate-text c = search needs
 
--- src/main.rt:193:5
 text-requires : tie.Need-text-requires
 text-requires c κs = search needs
 
--- src/main.rt:194:5
 field-requires : tie.Need-field-requires
 field-requires c κs = search needs
 
--- src/main.rt:195:10
 slice-aggregate-text-2 : tie.Need-slice-aggregate-text-2
 slice-aggregate-text-2 c = search needs
 
--- src/main.rt:195:5
 text-requires-2 : tie.Need-text-requires-2
 text-requires-2 c κs = search needs
 
--- src/main.rt:196:5
 answer-requires : tie.Need-answer-requires
 answer-requires c κs = search needs
 
--- src/main.rt:197:19
 slice-aggregate-row-sum : tie.Need-slice-aggregate-row-sum
 slice-aggregate-row-sum c = search needs
 
--- src/main.rt:197:11
 row-sum-requires : tie.Need-row-sum-requires
 row-sum-requires c κs = search needs
 
--- src/main.rt:197:5
 field-requires-2 : tie.Need-field-requires-2
 field-requires-2 c κs = search needs
 
--- src/main.rt:198:10
 slice-aggregate-text-3 : tie.Need-slice-aggregate-text-3
 slice-aggregate-text-3 c = search needs
 
--- src/main.rt:198:5
 text-requires-3 : tie.Need-text-requires-3
 text-requires-3 c κs = search needs
 
--- src/main.rt:199:5
 answer-requires-2 : tie.Need-answer-requires-2
 answer-requires-2 c κs = search needs
 
--- src/main.rt:200:19
 slice-aggregate-row-sum-2 : tie.Need-slice-aggregate-row-sum-2
 slice-aggregate-row-sum-2 c = search needs
 
--- src/main.rt:200:11
 row-sum-requires-2 : tie.Need-row-sum-requires-2
 row-sum-requires-2 c κs = search needs
 
--- src/main.rt:200:5
 field-requires-3 : tie.Need-field-requires-3
 field-requires-3 c κs = search needs
 
--- src/main.rt:201:9
 slice-aggregate-main : tie.Need-slice-aggregate-main
 slice-aggregate-main c = let a = c .before .before .before .before .before .before .before .before .before .before .before .before .before .before .before .before .before .before .before .before .before .before .before .before .before .args in sym (length-take-le (a .k) (a .bytes .now) (omega (arith, c .before .before .before .before .before .before .before .before .before .before .before .before .before .before .before .before .before .before .before .before .before .before .before .if1 .left)))
 
--- src/main.rt:202:19
 sub-standby : tie.Need-sub-standby
 sub-standby c = search needs
 
--- src/main.rt:202:19
 part-standby-start : tie.Need-part-standby-start
 part-standby-start c = search needs
 
--- src/main.rt:202:19
 part-standby-end : tie.Need-part-standby-end
 part-standby-end c = search needs
 
--- src/main.rt:203:16
 choose-part-requires : tie.Need-choose-part-requires
 choose-part-requires c κs = search needs
 
--- src/main.rt:203:62
 choose-line-requires : tie.Need-choose-line-requires
 choose-line-requires c κs = search needs
 
--- src/main.rt:203:5
 shown-part-requires : tie.Need-shown-part-requires
 shown-part-requires c κs = search needs
 
--- src/main.rt:184:1
 returns-2 : tie.Need-returns-2
 returns-2 c = search needs
 
