@@ -1,0 +1,187 @@
+//! The buffers that are read: real lines, lines in noise, and bytes chosen to cost as much as can be.
+
+use radar_reference::generate::floats::float_bits;
+use radar_reference::generate::random::Random;
+use radar_reference::generate::{mmwave, sirad};
+use radar_reference::judgement::{MMWAVE, SIRAD};
+use radar_reference::mmwave::MAGIC;
+
+/// What a workload's bytes are for.
+#[derive(Clone, Copy, Debug, PartialEq, Eq)]
+pub enum Task {
+    /// A closed reading of this dialect.
+    Read(u32),
+    /// Each four bytes are the bits of a float, to be given in millimetres.
+    Convert,
+}
+
+/// A kind of buffer.
+pub struct Workload {
+    /// Its name in the tables.
+    pub name: &'static str,
+    /// What is done with it.
+    pub task: Task,
+    make: fn(&mut Random, usize) -> Vec<u8>,
+}
+
+impl Workload {
+    /// The buffer of so many bytes. A longer one begins with the shorter ones.
+    pub fn bytes(&self, size: usize) -> Vec<u8> {
+        let mut bytes = (self.make)(&mut Random::new(1), size);
+        bytes.truncate(size);
+        assert_eq!(bytes.len(), size, "{}", self.name);
+        bytes
+    }
+}
+
+const fn read(name: &'static str, dialect: u32, make: fn(&mut Random, usize) -> Vec<u8>) -> Workload {
+    Workload { name, task: Task::Read(dialect), make }
+}
+
+/// All workloads, in the order of the tables.
+pub const WORKLOADS: [Workload; 19] = [
+    read("SiRad T, back to back", SIRAD, |random, size| repeat(size, || targets(random, DIGITS))),
+    read("SiRad T, every digit 0", SIRAD, |random, size| repeat(size, || targets(random, b"0"))),
+    read("SiRad R, n = 512", SIRAD, |random, size| repeat(size, || range(random, 512))),
+    read("SiRad E", SIRAD, |random, size| repeat(size, || error(random))),
+    read("SiRad U", SIRAD, |random, size| repeat(size, || status(random))),
+    read("SiRad in noise", SIRAD, |random, size| {
+        repeat(size, || with_noise(random, |random| sirad::frame(random, 600).expect("room for a frame")))
+    }),
+    read("`!` everywhere", SIRAD, |_, size| vec![b'!'; size]),
+    read("`!R` everywhere", SIRAD, |_, size| repeat(size, || b"!R".to_vec())),
+    read("`!RFFFF`, no end", SIRAD, |random, size| repeat(size, || endless(random))),
+    read("`!RFFFF00000000` repeated", SIRAD, |_, size| repeat(size, || b"!RFFFF00000000".to_vec())),
+    read("SiRad T, last byte wrong", SIRAD, |random, size| repeat(size, || wrong_end(targets(random, DIGITS)))),
+    read("mmWave points, K = 3", MMWAVE, |random, size| repeat(size, || points(random))),
+    read("mmWave L = 64, K = 0", MMWAVE, |_, size| repeat(size, || packet(64, 0, &[]))),
+    read("mmWave in noise", MMWAVE, |random, size| {
+        repeat(size, || with_noise(random, |random| mmwave::packet(random, 600).expect("room for a packet")))
+    }),
+    read("magics everywhere", MMWAVE, |_, size| repeat(size, || MAGIC.to_vec())),
+    read("02 everywhere", MMWAVE, |_, size| vec![2; size]),
+    read("32 records, last unfit", MMWAVE, |_, size| repeat(size, unfit_chain)),
+    Workload {
+        name: "coordinates to mm",
+        task: Task::Convert,
+        make: |random, size| repeat(size, || coordinate(random)),
+    },
+    Workload {
+        name: "any floats to mm",
+        task: Task::Convert,
+        make: |random, size| repeat(size, || float_bits(random).to_le_bytes().to_vec()),
+    },
+];
+
+const DIGITS: &[u8] = b"0123456789ABCDEF";
+
+fn repeat(size: usize, mut piece: impl FnMut() -> Vec<u8>) -> Vec<u8> {
+    let mut bytes = Vec::with_capacity(size + 70_000);
+    while bytes.len() < size {
+        bytes.extend(piece());
+    }
+    bytes
+}
+
+fn pick_into(random: &mut Random, bytes: &mut Vec<u8>, choices: &[u8], count: usize) {
+    bytes.extend((0..count).map(|_| random.pick(choices)));
+}
+
+fn characters_into(random: &mut Random, bytes: &mut Vec<u8>, count: usize) {
+    bytes.extend((0..count).map(|_| random.within(34, 254) as u8));
+}
+
+fn targets(random: &mut Random, digits: &[u8]) -> Vec<u8> {
+    let mut bytes = b"!T".to_vec();
+    pick_into(random, &mut bytes, digits, 1);
+    characters_into(random, &mut bytes, 1);
+    for _ in 0..16 {
+        pick_into(random, &mut bytes, digits, 5);
+        characters_into(random, &mut bytes, 1);
+        pick_into(random, &mut bytes, digits, 4);
+        bytes.extend(b"0000");
+    }
+    bytes.extend(b"\r\n");
+    bytes
+}
+
+fn wrong_end(mut frame: Vec<u8>) -> Vec<u8> {
+    *frame.last_mut().expect("a frame is not empty") = b'\r';
+    frame
+}
+
+fn range(random: &mut Random, size: usize) -> Vec<u8> {
+    let mut bytes = format!("!R{size:04X}00000000").into_bytes();
+    characters_into(random, &mut bytes, size);
+    bytes.extend(b"\r\n");
+    bytes
+}
+
+fn error(random: &mut Random) -> Vec<u8> {
+    let mut bytes = b"!E".to_vec();
+    pick_into(random, &mut bytes, DIGITS, 4);
+    bytes.extend(b"\r\n");
+    bytes
+}
+
+fn status(random: &mut Random) -> Vec<u8> {
+    let mut bytes = b"!U".to_vec();
+    pick_into(random, &mut bytes, DIGITS, 1);
+    characters_into(random, &mut bytes, 1);
+    pick_into(random, &mut bytes, DIGITS, 20);
+    bytes.extend(b"\r\n");
+    bytes
+}
+
+/// The greatest size with all its characters, and the next start where the stop marker should be.
+fn endless(random: &mut Random) -> Vec<u8> {
+    let mut bytes = b"!RFFFF".to_vec();
+    characters_into(random, &mut bytes, 8 + 0xFFFF);
+    bytes
+}
+
+/// A frame and 512 bytes of any value behind it.
+fn with_noise(random: &mut Random, frame: fn(&mut Random) -> Vec<u8>) -> Vec<u8> {
+    let mut bytes = frame(random);
+    bytes.extend((0..512).map(|_| random.byte()));
+    bytes
+}
+
+fn packet(total: u32, objects: u32, records: &[(u32, Vec<u8>)]) -> Vec<u8> {
+    let mut bytes = header(total, objects, records.len() as u32);
+    for (record_type, payload) in records {
+        bytes.extend(record_type.to_le_bytes());
+        bytes.extend((payload.len() as u32).to_le_bytes());
+        bytes.extend(payload);
+    }
+    bytes.resize(total as usize, 0);
+    bytes
+}
+
+fn header(total: u32, objects: u32, records: u32) -> Vec<u8> {
+    let fields = [0x0305_0004, total, 0x000A_6843, 7, 0x1234_5678, objects, records, 0];
+    MAGIC.into_iter().chain(fields.iter().flat_map(|field| field.to_le_bytes())).collect()
+}
+
+/// 20 points with their side information, and the statistics.
+fn points(random: &mut Random) -> Vec<u8> {
+    let floats = (0..80).flat_map(|_| coordinate(random)).collect();
+    let side = (0..80).map(|_| random.byte()).collect();
+    let statistics = (0..24).map(|_| random.byte()).collect();
+    packet(512, 20, &[(1, floats), (7, side), (6, statistics)])
+}
+
+/// Whole or half millimetres within 12 metres.
+fn coordinate(random: &mut Random) -> Vec<u8> {
+    let metres = random.below(48_000) as f32 / 2000.0 - 12.0;
+    metres.to_bits().to_le_bytes().to_vec()
+}
+
+/// A header and a record of 40 bytes whose payload is the next header: each magic starts a chain of 32 records, of which
+/// the last ends 25 bytes too early.
+fn unfit_chain() -> Vec<u8> {
+    let mut bytes = header(1632, 0, 32);
+    bytes.extend(10u32.to_le_bytes());
+    bytes.extend(40u32.to_le_bytes());
+    bytes
+}
