@@ -231,6 +231,7 @@ fn put_all(out: &mut [u8], table: &[u32], rows: usize, size: u32, skipped: u32) 
     put_end(out, last, size, skipped)
 }
 
+// Puts the listing of an input within the limit.
 fn put_listing(bytes: &[u8], out: &mut [u8], d: Dialect) -> usize
     requires { ⌜ length (now bytes) ≤ 65536 ⌝ }
     requires { ⌜ textRoom ≤ length (now out) ⌝ }
