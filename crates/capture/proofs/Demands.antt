@@ -38,12 +38,12 @@ use Rattle.mmwave.specs.MmWave.{mmWave, totalLegal, countLegal, perObject, payl
 use Rattle.mmwave.specs.Packet.{magic, entry, last, records, counted, packet}
 use Rattle.mmwave.specs.Profile.{typeOk, lengthOk}
 use Rattle.mmwave.proofs.Paper.{frame-exactly-if-packet}
-use Rattle.mmwave.proofs.Theorems.{mmwave-waits}
+use Rattle.mmwave.proofs.Insides.{waits-outside, waits-inside}
 use Rattle.units.specs.Float.{significand, scale}
 use Rattle.units.specs.Rounding.{nearest}
 use Rattle.units.specs.Units.{decibels, centidegrees, millimetres}
 use Rattle.capture.specs.Demands as say
-use Rattle.capture.specs.Demands.{StandsIn, judgedAt, EndsOutsideFields, ChoosesFirst}
+use Rattle.capture.specs.Demands.{StandsIn, judgedAt, EndsInsideField, ChoosesFirst}
 use Rattle.capture.specs.Dialects.{dialectOf, formOf, judgeOf, startOf}
 use Rattle.capture.specs.Edges.{edges}
 use Rattle.capture.specs.Entries.{maxBytes, verdict, numbersOf, readAnswer, readLeaves}
@@ -157,10 +157,10 @@ said-again d A B at j l h settled q =
 pub judged-alike : say.JudgedAlike
 judged-alike d A B l at h = ((λ k n. said-again d A B at (Whole k n) l h (prefix.whole-waits refl)), (λ r. said-again d A B at (Bad r) l h (prefix.bad-waits refl)))
 
-waits-from : (d : Dialect) (bs : List ℕ) → Bytes bs → EndsOutsideFields d bs → (judgeOf d bs ≡ Waiting) ↔ Completable (formOf d) bs
+waits-from : (d : Dialect) (bs : List ℕ) → Bytes bs → (EndsInsideField d bs → ⊥) → (judgeOf d bs ≡ Waiting) ↔ Completable (formOf d) bs
 unfolding formOf
 waits-from Sirad bs b out = sirad-waits bs b
-waits-from Mmwave bs b out = mmwave-waits bs b out
+waits-from Mmwave bs b out = waits-outside bs b out
 
 pub waits-exactly : say.WaitsExactly
 waits-exactly d A b l at h out =
@@ -168,8 +168,13 @@ waits-exactly d A b l at h out =
     let w = waits-from d (drop at A) (below-drop _ at A b) out in
     ((λ q. w .0 (e .0 q)), (λ c. e .1 (w .1 c)))
 
+waits-within : (d : Dialect) (bs : List ℕ) → EndsInsideField d bs → judgeOf d bs ≡ Waiting
+unfolding formOf
+waits-within Sirad bs i = absurd i
+waits-within Mmwave bs i = waits-inside bs i
+
 pub inside-waits : say.InsideWaits
-inside-waits d A l at h i = judged-exactly d A at Waiting l h .1 (forms.inside-waits (formOf d) 0 (drop at A) i)
+inside-waits d A l at h i = judged-exactly d A at Waiting l h .1 (waits-within d (drop at A) i)
 
 pub end-waits : say.EndWaits
 end-waits d A l = judged-exactly d A (length A) Waiting l (omega arith) .1 (rw (drop-length A) (lawful-of d .ends))

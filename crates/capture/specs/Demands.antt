@@ -7,7 +7,7 @@ use mathlib.Core.Logic.{_↔_}
 use Prim.Native.Nat.{ℕ, _+_, _*_, _<_, _≤_}
 use lib.ListN.{length, drop}
 use Rattle.digits.specs.Bytes.{Bytes}
-use Rattle.form.specs.Form.{Frame, Stands, Completable, Inside}
+use Rattle.form.specs.Form.{Frame, Stands, Completable}
 use Rattle.form.specs.declared.Judgement.the-variants.{Whole, Bad, Waiting}
 use Rattle.reading.specs.Answers.{answered, roomIn}
 use Rattle.reading.specs.Begins.{Begins}
@@ -19,6 +19,7 @@ use Rattle.sirad.specs.Sirad.{sirad}
 use Rattle.sirad.specs.Table.{TableFrame}
 use Rattle.mmwave.specs.MmWave.{mmWave}
 use Rattle.mmwave.specs.Packet.{packet}
+use Rattle.mmwave.specs.Document.{EndsInside}
 use Rattle.mmwave.specs.Paper.{Packet}
 use Rattle.capture.specs.Dialects.{dialectOf, formOf, judgeOf}
 use Rattle.capture.specs.Edges.{Line, resultOf, edges}
@@ -49,10 +50,10 @@ openOf d room bs = reading (judgeOf d) false room bs
 abbrev pub closedOf : Dialect → ℕ → List ℕ → Reading
 closedOf d room bs = reading (judgeOf d) true room bs
 
--- the bytes do not end inside a four-byte field, of which SiRad has none (demand 3, last sentence)
-abbrev pub EndsOutsideFields : Dialect → List ℕ → Type 0
-EndsOutsideFields Sirad bs = Unit {0}
-EndsOutsideFields Mmwave bs = Inside (packet mmWave) bs → ⊥
+-- the bytes "end inside" a four-byte field, of which SiRad has none (paper 01, "Judging a place")
+abbrev pub EndsInsideField : Dialect → List ℕ → Type 0
+EndsInsideField Sirad bs = ⊥
+EndsInsideField Mmwave bs = EndsInside mmWave bs
 
 -- -- Demand 1: bad input is answered with a number, and a refusal changes nothing
 
@@ -156,11 +157,11 @@ JudgedAlike =
 -- at every place of A, the end included, the reader waits exactly when no frame stands there yet and some further bytes would complete one; for mmWave, at each place from which A doesn't end inside a four-byte field
 abbrev pub WaitsExactly : Type 0
 WaitsExactly =
-    (d : Dialect) (A : List ℕ) → Bytes A → length A ≤ maxBytes → (at : ℕ) → at ≤ length A → EndsOutsideFields d (drop at A) → (judgedAt d A at ≡ Judged Waiting) ↔ Completable (formOf d) (drop at A)
+    (d : Dialect) (A : List ℕ) → Bytes A → length A ≤ maxBytes → (at : ℕ) → at ≤ length A → (EndsInsideField d (drop at A) → ⊥) → (judgedAt d A at ≡ Judged Waiting) ↔ Completable (formOf d) (drop at A)
 
 -- where A ends inside a four-byte field the judgement is waiting
 abbrev pub InsideWaits : Type 0
-InsideWaits = (d : Dialect) (A : List ℕ) → length A ≤ maxBytes → (at : ℕ) → at ≤ length A → Inside (formOf d) (drop at A) → judgedAt d A at ≡ Judged Waiting
+InsideWaits = (d : Dialect) (A : List ℕ) → length A ≤ maxBytes → (at : ℕ) → at ≤ length A → EndsInsideField d (drop at A) → judgedAt d A at ≡ Judged Waiting
 
 -- the place at the very end is waiting
 abbrev pub EndWaits : Type 0

@@ -1,6 +1,6 @@
 -- `capture::dialect_of` meets its contract. One literal for each dialect.
 use borrow.Author.Needs.{needs}
-use borrow.Author.Tests.{eq-eqb, ne-eqb}
+use borrow.Author.Tests.{ne-eqb}
 use Rattle.capture.specs.Dialects.{dialectOf}
 use Rattle.capture.proofs.dialect_of.Statement.{statement}
 use Rattle.capture.proofs.dialect_of.Tie as tie
@@ -15,7 +15,7 @@ returns-2 c = rw (c .match .keys2)
 
 returns-3 : tie.Need-returns-3
 unfolding dialectOf
-returns-3 c = search (needs, eq-eqb, ne-eqb)
+returns-3 c = search (needs, ne-eqb)
 
 pub dialect-of-spec : {M : Type 1} → statement M
 dialect-of-spec = tie.close (tie.spec returns returns-2 returns-3)
