@@ -116,10 +116,10 @@ fn parse(text: &str) -> Option<((usize, usize, usize), Count)> {
         } else if line.starts_with("calls=") {
             called = true;
         } else if line.starts_with(|first: char| first.is_ascii_digit() || "+-*".contains(first)) {
-            if !std::mem::take(&mut called) {
-                let cost = line.split_whitespace().nth(1).map_or(0, |cost| cost.parse().expect("a number"));
-                *own.entry(function).or_default() += cost;
-            }
+            // The line behind a call has the callee's cost.
+            let cost: u64 = line.split_whitespace().nth(1).map_or(0, |cost| cost.parse().expect("a number"));
+            *own.entry(function).or_default() += if called { 0 } else { cost };
+            called = false;
         }
     }
     let mut named: HashMap<&str, u64> = HashMap::new();

@@ -1,0 +1,69 @@
+//! What libFuzzer calls: the gateway library against the independent reader on one capture.
+//!
+//! Byte 0 of an input chooses the dialect, byte 1 the place of a split; the capture is the rest. Compared are the
+//! judgement at every place, both readings with tables of eight sizes, demand 3 at the split, and each four bytes as the
+//! bits of a coordinate. A difference is printed and ends the run, and libFuzzer keeps the input.
+
+use radar_reference::compare::{check_capture, check_millimetres, check_split};
+
+#[cfg(not(feature = "wrong"))]
+use radar_reference::gateway::Gateway as Tried;
+#[cfg(feature = "wrong")]
+use wrong::Wrong as Tried;
+
+/// The function that libFuzzer calls with each input.
+///
+/// # Safety
+///
+/// `data` points to `size` readable bytes.
+#[no_mangle]
+pub unsafe extern "C" fn LLVMFuzzerTestOneInput(data: *const u8, size: usize) -> i32 {
+    if size >= 2 {
+        // SAFETY: what the caller promises.
+        let input = unsafe { std::slice::from_raw_parts(data, size) };
+        let (first, capture) = input.split_at(2);
+        if let Err(what) = compare(u32::from(first[0] & 1), usize::from(first[1]), capture) {
+            panic!("{what}\n{} bytes: {capture:02x?}", capture.len());
+        }
+    }
+    0
+}
+
+fn compare(dialect: u32, part: usize, capture: &[u8]) -> Result<(), String> {
+    for float in capture.chunks_exact(4) {
+        check_millimetres(&Tried, u32::from_le_bytes([float[0], float[1], float[2], float[3]]))?;
+    }
+    check_capture(&Tried, dialect, capture)?;
+    // Last, because it ends with judgements: libFuzzer tries the operands of the last comparisons.
+    check_split(&Tried, dialect, capture, capture.len() * part / 255)
+}
+
+#[cfg(feature = "wrong")]
+mod wrong {
+    use radar_reference::abi::{Judgement, Millimetres, Reading, Reference, Subject, BAD};
+
+    /// The independent reader, but it does not take 254 for a character in the gain of a U frame.
+    pub struct Wrong;
+
+    impl Subject for Wrong {
+        fn judge(&self, dialect: u32, bytes: &[u8], place: usize) -> Judgement {
+            let answer = Reference.judge(dialect, bytes, place);
+            if answer.kind == 5 && bytes[place + 3] == 254 {
+                return Judgement { state: BAD, reason: 13, ..Judgement::default() };
+            }
+            answer
+        }
+
+        fn millimetres(&self, bits: u32) -> Millimetres {
+            Reference.millimetres(bits)
+        }
+
+        fn open_reading(&self, dialect: u32, bytes: &[u8], table: &mut [u32]) -> Reading {
+            Reference.open_reading(dialect, bytes, table)
+        }
+
+        fn closed_reading(&self, dialect: u32, bytes: &[u8], table: &mut [u32]) -> Reading {
+            Reference.closed_reading(dialect, bytes, table)
+        }
+    }
+}
