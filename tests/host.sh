@@ -1,6 +1,6 @@
 #!/usr/bin/env bash
-# The independent reader's own tests, the C host's program, and, if target/staticlib/libgateway.a is there, the comparison of
-# the gateway library with the independent reader and the C program's rows on the sample captures.
+# The independent reader's own tests, the comparison of the gateway library with it, and the C host's program with its rows
+# on the sample captures.
 set -u
 cd "$(dirname "$0")/.." || exit 2
 built=$(mktemp -d) && trap 'rm -rf "$built"' EXIT
@@ -13,15 +13,10 @@ if command -v c++ >/dev/null; then
   c++ -Wall -Wextra -Werror -Ihost/include -fsyntax-only "$built/header.cc" || { echo "host: vellanquor.h in C++"; exit 1; }
 fi
 
-if [ -f "$library/libgateway.a" ]; then
-  export VQ_LIB_DIR=$library
-else
-  unset VQ_LIB_DIR
-  echo "host: no $library/libgateway.a, so the library is not compared"
-fi
+[ -f "$library/libgateway.a" ] || rt staticlib gateway >target/host.log 2>&1 || { cat target/host.log; exit 1; }
+export VQ_LIB_DIR=$library
 (cd host/rust && cargo test --release --offline --quiet) || { echo "host: cargo test"; exit 1; }
 
-[ -n "${VQ_LIB_DIR:-}" ] || exit 0
 cc "$built/gateway_demo.o" -L"$library" -lgateway -lpthread -ldl -lm -o "$built/gateway_demo" || exit 1
 for listing in captures/*.txt; do
   capture=${listing%.txt}.bin
