@@ -120,6 +120,10 @@ halted Waiting h o = refl
 pub halt : (p : Form) (h : ℕ → Form) (at : ℕ) (bs : List ℕ) {r : Judgement} → r ≡ judgeAt p at bs → Halted r → r ≡ judgeAt (p >>= h) at bs
 halt p h at bs {r} a o = sym (seq p h at bs ∙ ap (λ (j : Judgement). after j (λ v e. judgeAt (h v) e bs)) (sym a) ∙ halted r (λ v e. judgeAt (h v) e bs) o)
 
+-- the first piece is bad: so are both
+pub stop : (p : Form) (h : ℕ → Form) (at : ℕ) (bs : List ℕ) {r : ℕ} → Bad r ≡ judgeAt p at bs → Bad r ≡ judgeAt (p >>= h) at bs
+stop p h at bs a = sym (seq p h at bs ∙ ap (λ (j : Judgement). after j (λ v e. judgeAt (h v) e bs)) (sym a))
+
 -- -- A four-byte field
 
 -- a field whose fourth byte is not there waits
@@ -130,6 +134,11 @@ four-waits r t at bs h = sym (word-ends r t whole at bs h)
 pub four-whole : (r : ℕ) (t : ℕ → Bool) (at : ℕ) (bs : List ℕ) → at + 4 ≤ length bs → t (littleAt 4 at bs) ≡ true → Whole (littleAt 4 at bs) (at + 4) ≡ judgeAt (four r t) at bs
 unfolding judge
 four-whole r t at bs h a = sym (word-step r t whole at bs h ∙ rw a)
+
+-- a field that is there and does not pass is bad
+pub four-bad : (r : ℕ) (t : ℕ → Bool) (at : ℕ) (bs : List ℕ) → at + 4 ≤ length bs → t (littleAt 4 at bs) ≡ false → Bad r ≡ judgeAt (four r t) at bs
+unfolding judge
+four-bad r t at bs h a = sym (word-step r t whole at bs h ∙ rw a)
 
 -- the number of four bytes that are there, by the bytes
 pub little-there : (at : ℕ) (bs : List ℕ) → at + 4 ≤ length bs → fromLittle (getD bs at 0 ∷ getD bs (at + 1) 0 ∷ getD bs (at + 2) 0 ∷ getD bs (at + 3) 0 ∷ []) ≡ littleAt 4 at bs
@@ -312,6 +321,23 @@ marker-met r (m ∷ ms) at (b ∷ xs) h = ap (Whole 0) (omega arith) ∙ marker-
 -- the given bytes, where they are there
 pub marker-whole : (r : ℕ) (ms : List ℕ) (at : ℕ) (bs : List ℕ) → take (length ms) (drop at bs) ≡ ms → Whole 0 (at + length ms) ≡ judgeAt (marker r ms) at bs
 marker-whole r ms at bs h = marker-met r ms at (drop at bs) h
+
+marker-missed : (r : ℕ) (ms : List ℕ) (at : ℕ) (xs : List ℕ) → length ms ≤ length xs → (take (length ms) xs ≡ ms → ⊥) → Bad r ≡ judge (marker r ms) at xs
+unfolding judge marker
+marker-missed r [] at xs h n = absurd (n refl)
+marker-missed r (m ∷ ms) at [] h n = absurd (omega arith)
+marker-missed r (m ∷ ms) at (b ∷ xs) h n = go (eqb b m) refl (λ f. marker-missed r ms (at + 1) xs (omega arith) f)
+  where
+    same : b ≡ m → take (length ms) xs ≡ ms → b ∷ take (length ms) xs ≡ m ∷ ms
+    same x e = cc
+
+    go : (u : Bool) → eqb b m ≡ u → ((take (length ms) xs ≡ ms → ⊥) → Bad r ≡ judge (marker r ms) (at + 1) xs) → Bad r ≡ cond (eqb b m) (judge (marker r ms) (at + 1) xs) (Bad r)
+    go true a s = s (λ e. n (same (eqb-true b m a) e)) ∙ rw a
+    go false a s = rw a
+
+-- other bytes than the given ones, as many
+pub marker-other : (r : ℕ) (ms : List ℕ) (at : ℕ) (bs : List ℕ) → length ms ≤ length (drop at bs) → (take (length ms) (drop at bs) ≡ ms → ⊥) → Bad r ≡ judgeAt (marker r ms) at bs
+marker-other r ms at bs h n = marker-missed r ms at (drop at bs) h n
 
 -- -- The judgement and the offset it starts from
 

@@ -1,4 +1,5 @@
 pub mod Laws
+pub mod Within
 pub mod MmWaveSound
 pub mod Lives
 pub mod Theorems

@@ -4,8 +4,8 @@ use mathlib.Core.Path.{refl, sym, ap, _∙_}
 use native.Mathlib.Omega.{arith}
 use Rattle.form.proofs.Laws.{go-on, halt}
 use Rattle.mmwave.specs.Packet.{packet}
-use Rattle.mmwave.proofs.judge.Statement.{statement}
-use Rattle.mmwave.proofs.judge.Tie as tie
+use Rattle.mmwave.proofs.judge_pieces.Statement.{statement}
+use Rattle.mmwave.proofs.judge_pieces.Tie as tie
 
 magic-at-requires : tie.Need-magic-at-requires
 magic-at-requires c κs = search needs
@@ -50,8 +50,8 @@ returns-4 c = c .behind-total .ensures
     ∙ sym (go-on _ _ _ _ (c .before .before .before .before .before .before .before .before .skip-numbers .ensures) (c .before .before .before .before .before .before .b .given .1))
     ∙ sym (go-on _ _ _ _ (c .before .before .before .before .before .before .before .before .before .before .before .before .magic-at .ensures) (c .before .before .before .before .before .before .before .before .before .before .a .given .1))
 
-pub judge-spec : {M : Type 1} → statement M
-judge-spec =
+pub judge-pieces-spec : {M : Type 1} → statement M
+judge-pieces-spec =
     tie.close
     (tie.spec
     magic-at-requires
