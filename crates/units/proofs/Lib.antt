@@ -1,4 +1,5 @@
 pub mod Rounding
 pub mod Theorems
 pub mod Edges
+pub mod Bits
 pub mod Machine

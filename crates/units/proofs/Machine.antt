@@ -1,46 +1,50 @@
 -- What the functions' proofs apply: the code's shifts and limits against the definitions, over plain variables.
-use mathlib.Core.Bool.{Bool, true, false}
+use mathlib.Core.Bool.{Bool, true, false, cond}
 use mathlib.Core.Path.{_≡_, refl, sym, _∙_, ap}
 use Prim.Native.Nat.{ℕ, zero, suc, _+_, _-_, _*_, _/_, _%_, _^_, _<_, _≤_}
-use native.Mathlib.Nat.{mul-comm, mul-assoc, add-mul, suc-mul, mul-left-comm, mul-le-mul, mul-le-mul-left, mul-div-mul-right, mul-lt-mul-of-pos-right, mul-le-mul-right, div-eq-of-lt, div-lt-iff-lt-mul, le-trans, le-of-lt, mod-le, lt-of-lt-of-le, not-le-of-lt, mod-lt, sub-add-cancel}
+use native.Mathlib.Nat.{mul-comm, mul-assoc, mul-add, add-mul, suc-mul, mul-left-comm, mul-le-mul-left, pow-succ', add-div-right, div-div-eq-div-mul, mul-div-mul-left, mul-div-mul-right, div-le-self, div-eq-of-lt, div-lt-iff-lt-mul, lt-of-lt-of-le, sub-add-cancel}
 use native.Mathlib.Omega.{arith}
-use lib.Dec.{leb, ltb, eqb, lit<, lit≤}
-use lib.Pow.{pow-add, pow-mono, pow-pos, shl-exact}
-use borrow.Author.Tests.{ltb-true, ltb-false, lt-ltb, le-ltb, le-leb, lt-leb, eq-eqb, ne-eqb}
+use lib.Dec.{leb, ltb, lit<}
+use lib.Pow.{pow-add, pow-pos}
+use borrow.Author.Tests.{ltb-true, ltb-false, leb-true, lt-ltb, le-ltb, le-leb, lt-leb}
 use lib.IntN.{pos, negℤ, _-ℤ_, +ℤ-idl}
 use mir.Syntax.{w32}
-use mir.Val.{SFits, toZ, ofZ}
+use mir.Val.{SFits, toZ, ofZ, boolByte}
 use mir.Facts.{toZ-pos, toZ-ofZ}
 use Rattle.digits.specs.Bytes.{isCharacter}
 use Rattle.digits.proofs.Choices.{test}
 use Rattle.units.specs.Rounding.{distance, signed, nearest}
-use Rattle.units.specs.Float.{negative, exponent, fraction, significand, scale, magnitude}
+use Rattle.units.specs.Float.{negative, exponent, fraction, magnitude}
 use Rattle.units.specs.Units.{value, refused, decibels, centidegrees, millimetres}
+use Rattle.units.proofs.Bits.{fraction-is, normal, within-limit, limit-bits, infinite-bits, below-least}
 
 -- -- Rounding
 
 -- a value below the half rounds to 0
-pub near-zero : (n k : ℕ) → n < 2 ^ 35 → 36 ≤ k → 0 ≡ nearest n (2 ^ k)
+near-zero : (n d : ℕ) → 2 * n < d → nearest n d ≡ 0
 unfolding nearest
-near-zero n k small far = sym (div-eq-of-lt (omega (arith, pow-mono {i = 36} {j = k} far)))
+near-zero n d h = div-eq-of-lt (omega arith)
 
-one-shl : (k : ℕ) → k < 63 → (1 * 2 ^ k) % 2 ^ 64 ≡ 2 ^ k
-one-shl k h = shl-exact {a = 1} 1 k 64 (lit< tt) (omega arith) ∙ omega arith
+-- a half more than a quotient (a is 1) fits
+pub half-fits : (n d a : ℕ) → n < 2 ^ 35 → a < 2 → n / d + a < 2 ^ 64
+half-fits n d a h one = omega (arith, div-le-self n d)
 
--- twice the value and a half's shift (a is 1) fit 64 bits
-pub half-fits : (n k a : ℕ) → n < 2 ^ 35 → k < 36 → a < 2 → 2 * n + (a * 2 ^ k) % 2 ^ 64 < 2 ^ 64
-half-fits n k a small near one =
-    let h : (a * 2 ^ k) % 2 ^ 64 ≤ a * 2 ^ k = mod-le (a * 2 ^ k) (2 ^ 64) in
-    let g : a * 2 ^ k ≤ 1 * 2 ^ 36 = mul-le-mul {n₁ = a} {m₁ = 2 ^ k} {n₂ = 1} {m₂ = 2 ^ 36} (omega arith) (pow-mono {i = k} {j = 36} (omega arith)) in
-    omega arith
-
--- a shift is the closed form
-pub shifted : (n k : ℕ) → k < 36 → (2 * n + (1 * 2 ^ k) % 2 ^ 64) / 2 ^ (k + 1) ≡ nearest n (2 ^ k)
+halved : (n d : ℕ) → 0 < d → (n / d + 1) / 2 ≡ nearest n (2 * d)
 unfolding nearest
-shifted n k near = rw (one-shl k (omega arith), pow-add 2 k 1, mul-comm (2 ^ k) 2)
+halved n d h =
+    ap (λ (x : ℕ). x / 2) (sym (add-div-right n h))
+    ∙ div-div-eq-div-mul (n + d) d 2
+    ∙ ap (λ (x : ℕ). (n + d) / x) (mul-comm d 2)
+    ∙ sym (mul-div-mul-left (n + d) (2 * d) (lit< tt))
+    ∙ ap (λ (x : ℕ). x / (2 * (2 * d))) (mul-add 2 n d)
+
+-- a shift by one less, a half and a shift by one: the closed form
+pub shifted : (n k : ℕ) → 0 < k → (n / 2 ^ (k - 1) + 1) / 2 ≡ nearest n (2 ^ k)
+shifted n k h =
+    halved n (2 ^ (k - 1)) (pow-pos (k - 1)) ∙ ap (nearest n) (sym (pow-succ' 2 (k - 1)) ∙ ap (λ (x : ℕ). 2 ^ x) (omega arith))
 
 -- a common factor does not matter
-pub nearest-scaled : (n d f : ℕ) → 0 < f → nearest (n * f) (d * f) ≡ nearest n d
+nearest-scaled : (n d f : ℕ) → 0 < f → nearest (n * f) (d * f) ≡ nearest n d
 unfolding nearest
 nearest-scaled n d f h =
     rw (← mul-assoc 2 n f, ← add-mul (2 * n) d f, ← mul-assoc 2 d f) (mul-div-mul-right (2 * n + d) (2 * d) h)
@@ -53,7 +57,7 @@ shift-exact m t h =
     ∙ ap (nearest (1000 * (m * 2 ^ t))) (sym (pow-add 2 (150 - t) t) ∙ ap (λ (x : ℕ). 2 ^ x) (sub-add-cancel h))
 
 -- a value of at most q rounds to at most q
-pub nearest-most : (n d q : ℕ) → 0 < d → n ≤ q * d → nearest n d ≤ q
+nearest-most : (n d q : ℕ) → 0 < d → n ≤ q * d → nearest n d ≤ q
 unfolding nearest
 nearest-most n d q h most =
     let e : suc q * (2 * d) ≡ 2 * (q * d) + 2 * d = suc-mul q (2 * d) ∙ ap (λ (x : ℕ). x + 2 * d) (mul-left-comm q 2 d) in
@@ -128,105 +132,80 @@ centidegrees-refused c t = simp t
 pub centidegrees-small : (c a q : ℕ) → c < 2 ^ 8 → a ≡ distance c 144 → q ≡ nearest (1800 * a) 11 → q ≤ 1000000
 centidegrees-small c a q h e f = rw f (nearest-most (1800 * a) 11 1000000 (lit< tt) (omega arith))
 
--- -- Floats
+-- -- Refusals
 
-module _ (bits : ℕ) where
-  -- a significand has 24 bits
-  pub significand-small : significand bits < 2 ^ 24
-  unfolding significand
-  significand-small =
-      let h : fraction bits < 2 ^ 23 = mod-lt bits {m = 2 ^ 23} (lit< tt) in
-      test (eqb (exponent bits) 0) (λ t. simp t (omega arith)) (λ t. simp t (omega arith))
+times-byte : (n : ℕ) (b : Bool) → n < 2 ^ 32 → n * boolByte b < 2 ^ 32
+times-byte n true h = omega arith
+times-byte n false h = omega arith
 
-  -- above the limit's scale a significand has its leading one
-  pub significand-normal : 136 < scale bits → 2 ^ 23 ≤ significand bits
-  unfolding significand scale
-  significand-normal =
-      test (eqb (exponent bits) 0) (λ t. simp t (λ far. omega arith)) (λ t. simp t (λ far. omega arith))
+-- a refusal number that a test switches on fits
+pub less-fits : (n limit u : ℕ) → n < 2 ^ 32 → n * boolByte (ltb limit u) < 2 ^ 32
+less-fits n limit u = times-byte n (ltb limit u)
 
--- -- The limit: 1000 * 2 ^ 150 is 16384000 * 2 ^ 136
+pub most-fits : (n limit u : ℕ) → n < 2 ^ 32 → n * boolByte (leb limit u) < 2 ^ 32
+most-fits n limit u = times-byte n (leb limit u)
 
--- below the limit's scale 24 bits do not reach it
-pub below-limit : (m t : ℕ) → m < 2 ^ 24 → t < 136 → false ≡ ltb (1000 * 2 ^ 150) (m * 2 ^ t)
-below-limit m t small low =
-    sym (le-ltb (1000 * 2 ^ 150) (m * 2 ^ t) (le-trans (mul-le-mul (le-of-lt small) (pow-mono {i = t} {j = 135} (omega arith))) (lit≤ {m = 2 ^ 24 * 2 ^ 135} tt)))
-
--- a common factor does not change the order
-ltb-scaled : (a b f : ℕ) → 0 < f → ltb a b ≡ ltb (a * f) (b * f)
-ltb-scaled a b f h =
+-- what is infinite is too far as well, so nothing goes below 0
+pub infinite-far : (a b limit infinite u : ℕ) → b ≤ a → limit < infinite → b * boolByte (leb infinite u) ≤ a * boolByte (ltb limit u)
+infinite-far a b limit infinite u less h =
     test
-    (ltb a b)
-    (λ t. t ∙ sym (lt-ltb (a * f) (b * f) (mul-lt-mul-of-pos-right (ltb-true a b t) h)))
-    (λ t. t ∙ sym (le-ltb (a * f) (b * f) (mul-le-mul-right f (ltb-false a b t))))
+    (leb infinite u)
+    (λ t. rw (t, lt-ltb limit u (lt-of-lt-of-le h (leb-true infinite u t))) (omega arith))
+    (λ t. rw t (omega arith))
 
--- at the limit's scale the significands decide
-pub at-limit : (m t : ℕ) → t ≡ 136 → ltb 16384000 m ≡ ltb (1000 * 2 ^ 150) (m * 2 ^ t)
-at-limit m t e = rw e (ltb-scaled 16384000 m (2 ^ 136) (lit< tt))
+-- the number without a branch
+pub number-is : (u : ℕ) → 31 * boolByte (ltb 0x447A0000 u) - 1 * boolByte (leb 0x7F800000 u) ≡ cond (ltb 0x447A0000 u) (cond (leb 0x7F800000 u) 30 31) 0
+number-is u = go (ltb 0x447A0000 u) (leb 0x7F800000 u)
+  where
+    go : (far infinite : Bool) → 31 * boolByte far - 1 * boolByte infinite ≡ cond far (cond infinite 30 31) 0
+    go true true = refl
+    go true false = refl
+    go false infinite = omega arith
 
--- above the limit's scale a leading one is over it
-over : (m t : ℕ) → 2 ^ 23 ≤ m → 136 < t → 1000 * 2 ^ 150 < m * 2 ^ t
-over m t normal high =
-    lt-of-lt-of-le (lit< {n = 2 ^ 23 * 2 ^ 137} tt) (mul-le-mul normal (pow-mono {i = 137} {j = t} high))
+-- both zeros are 0
+signed-zero : (negative : Bool) → signed negative 0 ≡ pos 0
+signed-zero true = refl
+signed-zero false = refl
 
--- the same as a test
-pub above-limit : (m t : ℕ) → 2 ^ 23 ≤ m → 136 < t → true ≡ ltb (1000 * 2 ^ 150) (m * 2 ^ t)
-above-limit m t normal high = sym (lt-ltb (1000 * 2 ^ 150) (m * 2 ^ t) (over m t normal high))
+-- -- Millimetres: `over` is what the bits without the sign are over those of 2 ^ -12 m, wrapped
 
--- -- Millimetres
-
-le-of-not-lt : (a b : ℕ) → (b < a → ⊥) → a ≤ b
-le-of-not-lt a b h = test (ltb b a) (λ t. absurd (h (ltb-true b a t))) (λ t. ltb-false b a t)
-
--- infinite or no number
-pub refused-not-finite : (bits : ℕ) → exponent bits ≡ 255 → refused 30 ≡ millimetres bits
+-- outside 2 ^ -12 m to 1000 m
+pub millimetres-outside : (bits over number : ℕ) → over < 2 ^ 32 → (over + 0x39800000) % 2 ^ 32 ≡ bits % 2 ^ 31 → 0x447A0000 - 0x39800000 < over → number ≡ cond (ltb 0x447A0000 (bits % 2 ^ 31)) (cond (leb 0x7F800000 (bits % 2 ^ 31)) 30 31) 0 → refused number ≡ millimetres bits
 unfolding millimetres
-refused-not-finite bits e = simp (eq-eqb (exponent bits) 255 e)
+millimetres-outside bits over number fits wraps outside e =
+    rw (e, infinite-bits bits, limit-bits bits)
+    (test
+    (ltb 0x447A0000 (bits % 2 ^ 31))
+    (λ t. test (leb 0x7F800000 (bits % 2 ^ 31)) (λ u. simp (t, u)) (λ u. simp (t, u)))
+    (λ t.
+    let near : bits % 2 ^ 31 ≤ 0x447A0000 = ltb-false 0x447A0000 (bits % 2 ^ 31) t in
+    let finite : leb 0x7F800000 (bits % 2 ^ 31) ≡ false = lt-leb 0x7F800000 (bits % 2 ^ 31) (omega arith) in
+    let least : bits % 2 ^ 31 < 0x39800000 = omega arith in
+    simp (t, finite, near-zero (1000 * magnitude bits) (2 ^ 150) (below-least bits least), signed-zero (negative bits))))
 
--- the significand and the scale that the code took from the bits of a number
-pub record Parts (bits m t : ℕ) : Type 0 where
-  pub significand-is : m ≡ significand bits
-  pub scale-is : t ≡ scale bits
-  pub finite : exponent bits ≡ 255 → ⊥
+-- inside
+module _ (bits over : ℕ) (wraps : (over + 0x39800000) % 2 ^ 32 ≡ bits % 2 ^ 31) (within : over ≤ 0x447A0000 - 0x39800000) where
+  most : bits % 2 ^ 31 ≤ 0x447A0000
+  most = omega arith
 
--- at most 1000 m
-pub record Near (m t : ℕ) : Type 0 where
-  pub near : ltb (1000 * 2 ^ 150) (m * 2 ^ t) ≡ false
+  -- the shift is what the exponent leaves of 150
+  shift-is : 35 - over / 2 ^ 23 ≡ 150 - exponent bits
+  shift-is = omega arith
 
-module _ {bits m t : ℕ} (p : Parts bits m t) where
-  -- what `too_far` asks for
-  pub limit-asks : (m < 2 ^ 24) × (136 < t → 2 ^ 23 ≤ m)
-  limit-asks = rw (p .significand-is, p .scale-is) (significand-small bits, significand-normal bits)
-
-  -- what `rounded_shift` asks for
-  pub shift-asks : 1000 * m < 2 ^ 35
-  shift-asks = omega (arith, limit-asks .0)
-
-  -- over 1000 m
-  pub refused-too-far : ltb (1000 * 2 ^ 150) (m * 2 ^ t) ≡ true → refused 31 ≡ millimetres bits
-  unfolding millimetres
-  refused-too-far far = simp (ne-eqb (exponent bits) 255 (p .finite), rw (p .significand-is, p .scale-is) at far)
-
-  module _ (below : Near m t) where
-    near-limit : m * 2 ^ t ≤ 1000 * 2 ^ 150
-    near-limit = ltb-false (1000 * 2 ^ 150) (m * 2 ^ t) (below .near)
-
-    -- the scale leaves something to shift by
-    pub scale-fits : t ≤ 150
-    scale-fits = le-trans {m = 136} (le-of-not-lt t 136 (λ high. not-le-of-lt (over m t (limit-asks .1 high) high) near-limit)) (lit≤ tt)
-
+  module _ (q : ℕ) (e : q ≡ nearest (1000 * (2 ^ 23 + bits % 2 ^ 31 % 2 ^ 23)) (2 ^ (35 - over / 2 ^ 23))) where
     -- the shift rounds the exact value
-    pub whole-is : (q : ℕ) → q ≡ nearest (1000 * m) (2 ^ (150 - t)) → q ≡ nearest (1000 * magnitude bits) (2 ^ 150)
-    whole-is q e = e ∙ shift-exact m t scale-fits ∙ ap (λ (x : ℕ). nearest (1000 * x) (2 ^ 150)) (rw (p .significand-is, p .scale-is) refl)
+    whole-is : q ≡ nearest (1000 * magnitude bits) (2 ^ 150)
+    whole-is =
+        e ∙ rw (shift-is, ← fraction-is bits, normal bits (omega arith)) (shift-exact (2 ^ 23 + fraction bits) (exponent bits) (omega arith))
 
     -- at most 1000 m is at most a million millimetres
-    pub whole-small : (q : ℕ) → q ≡ nearest (1000 * m) (2 ^ (150 - t)) → q ≤ 1000000
-    whole-small q e =
-        rw (e ∙ shift-exact m t scale-fits)
-        (nearest-most (1000 * (m * 2 ^ t)) (2 ^ 150) 1000000 (lit< tt) (mul-le-mul-left 1000 near-limit))
+    pub whole-small : q ≤ 1000000
+    whole-small =
+        rw whole-is
+        (nearest-most (1000 * magnitude bits) (2 ^ 150) 1000000 (lit< tt) (mul-le-mul-left 1000 (within-limit bits most)))
 
     -- the value that is not refused
-    pub millimetres-value : (q : ℕ) → q ≡ nearest (1000 * m) (2 ^ (150 - t)) → value (signed (negative bits) q) ≡ millimetres bits
+    pub millimetres-within : value (signed (negative bits) q) ≡ millimetres bits
     unfolding millimetres
-    millimetres-value q e =
-        ap (λ (x : ℕ). value (signed (negative bits) x)) (whole-is q e)
-        ∙ simp (ne-eqb (exponent bits) 255 (p .finite), rw (p .significand-is, p .scale-is) at (below .near))
+    millimetres-within =
+        rw (whole-is, infinite-bits bits, limit-bits bits, lt-leb 0x7F800000 (bits % 2 ^ 31) (omega (arith, most)), le-ltb 0x447A0000 (bits % 2 ^ 31) most) refl

@@ -1,11 +1,11 @@
 // The number rules: what characters, accuracies and coordinates mean.
 // Sign and magnitude stay apart up to `signed_quantity`; the magnitudes are whole numbers, so no rounding but ours takes place.
 ghost use Prim.Native.Nat.{_*_, _^_, _<_, _≤_};
+ghost use mathlib.Core.Bool.{cond};
 ghost use mathlib.Core.Path.{_≡_};
-ghost use lib.Dec.{ltb};
+ghost use lib.Dec.{leb, ltb};
 ghost use Rattle.digits.specs.Bytes.{isCharacter};
 ghost use Rattle.units.specs.Rounding.{distance, signed, nearest};
-ghost use Rattle.units.specs.Float.{negative, exponent, significand, scale};
 ghost use Rattle.units.specs.Units.{value, refused, decibels, centidegrees, accuracyMillimetres, millimetres};
 
 // Refusals (paper 01, "Refusal numbers").
@@ -36,16 +36,20 @@ const ACCURACY_PARTS: u32 = 10;
 // A float's fraction is below this; a normal significand is this much more.
 const LEADING_ONE: u32 = 8388608;
 
-const EXPONENTS: u32 = 256;
+// The bit of a float's sign; the bits below it are the magnitude's.
+const SIGN: u32 = 0x80000000;
 
-const LAST_EXPONENT: u32 = 255;
+// Without the sign the bits rise with the magnitude: those of 2 ^ -12 m (below it the nearest millimetre is 0), of 1000 m, of infinity.
+const LEAST_BITS: u32 = 0x39800000;
 
-// A magnitude is significand * 2 ^ scale / 2 ^ ONE_SCALE metres; 1000 m is LIMIT_SIGNIFICAND at LIMIT_SCALE.
+const LIMIT_BITS: u32 = 0x447A0000;
+
+const INFINITE_BITS: u32 = 0x7F800000;
+
+// A magnitude is significand * 2 ^ exponent / 2 ^ ONE_SCALE metres; at LEAST_BITS the exponent leaves LEAST_SHIFT.
 const ONE_SCALE: u32 = 150;
 
-const LIMIT_SCALE: u32 = 136;
-
-const LIMIT_SIGNIFICAND: u32 = 16384000;
+const LEAST_SHIFT: u32 = ONE_SCALE - LEAST_BITS / LEADING_ONE;
 
 const MILLIMETRES_IN_METRE: u64 = 1000;
 
@@ -101,15 +105,12 @@ fn rounded(n: u32, d: u32) -> u32
     (2 * n + d) / (2 * d)
 }
 
-// The whole number nearest to n / 2 ^ k, a half up; from k = 36 on n is below the half.
+// The whole number nearest to n / 2 ^ k, a half up.
 fn rounded_shift(n: u64, k: u32) -> u64
-    requires { ⌜ n < 2 ^ 35 ⌝ }
+    requires { ⌜ (n < 2 ^ 35) × (0 < k) × (k < 64) ⌝ }
     ensures { λ r. ⌜ r ≡ nearest n (2 ^ k) ⌝ }
 {
-    if 36 <= k {
-        return 0;
-    }
-    (2 * n + (1u64 << k)) >> (k + 1)
+    ((n >> (k - 1)) + 1) / 2
 }
 
 fn is_character(byte: u8) -> bool
@@ -151,46 +152,14 @@ pub fn accuracy_to_millimetres(tenths: u16) -> u16
     whole as u16
 }
 
-fn exponent_of(bits: u32) -> u32
-    ensures { λ r. ⌜ r ≡ exponent bits ⌝ }
+// What a magnitude outside LEAST_BITS to LIMIT_BITS is refused with: 30, 31, or 0 below, where the value is 0.
+// The tests are cast, so nothing branches; what is infinite is too far as well.
+fn refusal_number(unsigned: u32) -> u32
+    ensures { λ r. ⌜ r ≡ cond (ltb 0x447A0000 unsigned) (cond (leb 0x7F800000 unsigned) 30 31) 0 ⌝ }
 {
-    bits / LEADING_ONE % EXPONENTS
-}
-
-// The significand as a whole number; a subnormal one has no leading one.
-fn significand_of(bits: u32) -> u32
-    ensures { λ r. ⌜ r ≡ significand bits ⌝ }
-{
-    let low = bits % LEADING_ONE;
-    if exponent_of(bits) == 0 {
-        return low;
-    }
-    LEADING_ONE + low
-}
-
-// The power of two beside the significand.
-fn scale_of(bits: u32) -> u32
-    ensures { λ r. ⌜ r ≡ scale bits ⌝ }
-{
-    let e = exponent_of(bits);
-    if e == 0 {
-        return 1;
-    }
-    e
-}
-
-// Whether m * 2 ^ t is over 1000 m; a normal significand above the limit's scale always is.
-fn too_far(m: u32, t: u32) -> bool
-    requires { ⌜ (m < 2 ^ 24) × (136 < t → 2 ^ 23 ≤ m) ⌝ }
-    ensures { λ r. ⌜ r ≡ ltb (1000 * 2 ^ 150) (m * 2 ^ t) ⌝ }
-{
-    if t < LIMIT_SCALE {
-        return false;
-    }
-    if t == LIMIT_SCALE {
-        return LIMIT_SIGNIFICAND < m;
-    }
-    true
+    let far = (LIMIT_BITS < unsigned) as u32;
+    let infinite = (INFINITE_BITS <= unsigned) as u32;
+    TOO_FAR * far - (TOO_FAR - NOT_FINITE) * infinite
 }
 
 // A coordinate, the bits of a float in metres, to whole millimetres, halves away from zero:
@@ -198,17 +167,15 @@ fn too_far(m: u32, t: u32) -> bool
 pub fn coordinate_to_millimetres(bits: u32) -> Quantity
     ensures { λ r. ⌜ r ≡ millimetres bits ⌝ }
 {
-    let e = exponent_of(bits);
-    if e == LAST_EXPONENT {
-        return refusal_of(NOT_FINITE);
+    let unsigned = bits % SIGN;
+    // Below LEAST_BITS the difference wraps round to over 2 ^ 31: one test for both ends.
+    let over = std::num::wrapping_sub_u32(unsigned, LEAST_BITS);
+    if LIMIT_BITS - LEAST_BITS < over {
+        return refusal_of(refusal_number(unsigned));
     }
-    let m = significand_of(bits);
-    let t = scale_of(bits);
-    if too_far(m, t) {
-        return refusal_of(TOO_FAR);
-    }
+    let m = LEADING_ONE + unsigned % LEADING_ONE;
     let n = MILLIMETRES_IN_METRE * (m as u64);
-    let k = ONE_SCALE - t;
+    let k = LEAST_SHIFT - over / LEADING_ONE;
     let whole = rounded_shift(n, k) as u32;
     signed_quantity(bits >> 31 == 1, whole)
 }

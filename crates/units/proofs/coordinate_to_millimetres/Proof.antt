@@ -1,47 +1,34 @@
--- `units::coordinate_to_millimetres` meets its contract: refused, or the nearest whole millimetre.
-use mathlib.Core.Path.{sym, _∙_}
-use native.Mathlib.Omega.{arith}
+-- `units::coordinate_to_millimetres` meets its contract: outside 2 ^ -12 m to 1000 m a refusal or 0, inside the nearest whole millimetre.
+use mathlib.Core.Path.{_∙_}
+use Prim.Native.Nat.{_≤_}
 use native.Mathlib.Nat.{lt-of-le-of-lt}
 use lib.Dec.{lit<}
 use borrow.Author.Needs.{needs}
-use Rattle.units.proofs.Machine.{Parts, Near, refused-not-finite, limit-asks, shift-asks, refused-too-far, scale-fits, whole-small, millimetres-value}
+use Rattle.units.proofs.Machine.{millimetres-outside, whole-small, millimetres-within}
 use Rattle.units.proofs.coordinate_to_millimetres.Statement.{statement}
 use Rattle.units.proofs.coordinate_to_millimetres.Tie as tie
 
-parts : (c : tie.After-scale-of) → Parts (c .before .before .before .before .args .bits) (c .before .significand-of .result) (c .scale-of .result)
-parts c =
-    record {
-      significand-is = c .before .significand-of .ensures;
-      scale-is = c .scale-of .ensures;
-      finite = λ e. c .before .before .if1 .left (c .before .before .before .exponent-of .ensures ∙ e);
-    }
+wrapping-sub-u32-requires : tie.Need-wrapping-sub-u32-requires
+wrapping-sub-u32-requires c κs = search needs
 
-near : (c : tie.Else2) → Near (c .before .before .before .significand-of .result) (c .before .before .scale-of .result)
-near c = record { near = sym (c .before .too-far .ensures) ∙ c .if2 .left }
+sub-if1 : tie.Need-sub-if1
+sub-if1 c = search needs
 
-exponent-of-requires : tie.Need-exponent-of-requires
-exponent-of-requires c κs = search needs
+refusal-number-requires : tie.Need-refusal-number-requires
+refusal-number-requires c κs = search needs
 
 refusal-of-requires : tie.Need-refusal-of-requires
 refusal-of-requires c κs = search needs
 
 returns : tie.Need-returns
-returns c = c .refusal-of .ensures ∙ refused-not-finite _ (sym (c .before .before .exponent-of .ensures) ∙ c .before .if1 .taken)
+returns c =
+    let at-number = c .before in
+    let at-over = at-number .before .before in
+    c .refusal-of .ensures
+    ∙ millimetres-outside _ _ _ (at-over .wrapping-sub-u32 .ok) (at-over .wrapping-sub-u32 .ensures) (at-number .before .if1 .taken) (at-number .refusal-number .ensures)
 
-significand-of-requires : tie.Need-significand-of-requires
-significand-of-requires c κs = search needs
-
-scale-of-requires : tie.Need-scale-of-requires
-scale-of-requires c κs = search needs
-
-too-far-requires : tie.Need-too-far-requires
-too-far-requires c κs = limit-asks (parts c)
-
-refusal-of-requires-2 : tie.Need-refusal-of-requires-2
-refusal-of-requires-2 c κs = search needs
-
-returns-2 : tie.Need-returns-2
-returns-2 c = c .refusal-of2 .ensures ∙ refused-too-far (parts (c .before .before .before)) (sym (c .before .before .too-far .ensures) ∙ c .before .if2 .taken)
+add-m : tie.Need-add-m
+add-m c = search needs
 
 cast-n : tie.Need-cast-n
 cast-n c = search needs
@@ -50,36 +37,42 @@ mul-n : tie.Need-mul-n
 mul-n c = search needs
 
 sub-k : tie.Need-sub-k
-sub-k c = scale-fits (parts (c .before .before)) (near c)
+sub-k c = search needs
 
 rounded-shift-requires : tie.Need-rounded-shift-requires
-rounded-shift-requires c κs = omega (arith, shift-asks (parts (c .before .before)))
+rounded-shift-requires c κs = search needs
+
+-- at most a million millimetres
+small : (c : tie.After-rounded-shift) → c .rounded-shift .result ≤ 1000000
+small c = whole-small _ _ (c .before .before .wrapping-sub-u32 .ensures) (c .before .if1 .left) _ (c .rounded-shift .ensures)
 
 cast-whole : tie.Need-cast-whole
-cast-whole c = record { fits = lt-of-le-of-lt (whole-small (parts (c .before .before .before)) (near (c .before)) _ (c .rounded-shift .ensures)) (lit< tt) }
+cast-whole c = record { fits = lt-of-le-of-lt (small c) (lit< tt) }
 
 signed-quantity-requires : tie.Need-signed-quantity-requires
-signed-quantity-requires c κs = whole-small (parts (c .before .before .before)) (near (c .before)) _ (c .rounded-shift .ensures)
+signed-quantity-requires c κs = small c
 
-returns-3 : tie.Need-returns-3
-returns-3 c = c .signed-quantity .ensures ∙ millimetres-value (parts (c .before .before .before .before)) (near (c .before .before)) _ (c .before .rounded-shift .ensures)
+returns-2 : tie.Need-returns-2
+returns-2 c =
+    let at-whole = c .before in
+    let at-over = at-whole .before .before in
+    c .signed-quantity .ensures
+    ∙ millimetres-within _ _ (at-over .wrapping-sub-u32 .ensures) (at-whole .before .if1 .left) _ (at-whole .rounded-shift .ensures)
 
 pub coordinate-to-millimetres-spec : {M : Type 1} → statement M
 coordinate-to-millimetres-spec =
     tie.close
     (tie.spec
-    exponent-of-requires
+    wrapping-sub-u32-requires
+    sub-if1
+    refusal-number-requires
     refusal-of-requires
     returns
-    significand-of-requires
-    scale-of-requires
-    too-far-requires
-    refusal-of-requires-2
-    returns-2
+    add-m
     cast-n
     mul-n
     sub-k
     rounded-shift-requires
     cast-whole
     signed-quantity-requires
-    returns-3)
+    returns-2)
