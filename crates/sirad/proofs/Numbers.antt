@@ -6,12 +6,11 @@ use Prim.Native.Nat.{ℕ, zero, suc, _+_, _*_, _-_, _^_, _<_, _≤_}
 use native.Mathlib.Omega.{arith}
 use native.Mathlib.Nat.{pow-le-pow-right, pow-succ', lt-of-lt-of-le}
 use native.Mathlib.Numerals.{add-one}
-use borrow.Author.Tests.{leb-true}
-use lib.Dec.{leb}
 use lib.ListN.{length, getD}
-use Rattle.digits.specs.Bytes.{within, isHex}
+use Rattle.digits.specs.Bytes.{isHex}
 use Rattle.digits.specs.Hex.{digit}
-use Rattle.digits.proofs.Choices.{and-left}
+use Rattle.digits.proofs.Choices.{both-ways}
+use Rattle.digits.proofs.HexLaws.{Hexness, low, high, none, hexness}
 use Rattle.form.specs.declared.Judgement.the-variants.{Whole, Bad, Waiting}
 use Rattle.form.specs.Form.{byte, _>>=_, judge, judgeAt}
 use Rattle.form.proofs.Laws.{byte-step, byte-ends}
@@ -19,24 +18,24 @@ use Rattle.sirad.specs.Sirad.{number}
 
 -- -- Digits
 
-pub within-low : (low high b : ℕ) → within low high b ≡ true → low ≤ b
-within-low low high b h = leb-true low b (and-left (leb low b) (leb b high) h)
+module _ (b : ℕ) (hex : isHex b ≡ true) where
+  -- below `A` a digit is a figure
+  pub digit-figure : b < 65 → b - 48 ≡ digit b
+  digit-figure l = go (hexness b)
+    where
+      go : Hexness b → b - 48 ≡ digit b
+      go (low p q t d) = sym d
+      go (high p q t d) = absurd (omega arith)
+      go (none f d) = both-ways (isHex b) hex f
 
-module _ (b : ℕ) where
-  -- 0 to 9
-  pub digit-figure : within 48 57 b ≡ true → b - 48 ≡ digit b
-  unfolding digit
-  digit-figure h = rw h
-
-  -- A to F
-  pub digit-letter : within 48 57 b ≡ false → within 65 70 b ≡ true → b - 55 ≡ digit b
-  unfolding digit
-  digit-letter h l = rw (h, l)
-
-  -- no digit
-  pub digit-none : within 48 57 b ≡ false → within 65 70 b ≡ false → 0 ≡ digit b
-  unfolding digit
-  digit-none h l = rw (h, l)
+  -- from `A` on it is a letter
+  pub digit-letter : 65 ≤ b → b - 55 ≡ digit b
+  digit-letter l = go (hexness b)
+    where
+      go : Hexness b → b - 55 ≡ digit b
+      go (low p q t d) = absurd (omega arith)
+      go (high p q t d) = sym d
+      go (none f d) = both-ways (isHex b) hex f
 
 -- -- Numbers
 

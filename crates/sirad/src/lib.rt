@@ -133,16 +133,15 @@ fn reason_of(c: Class) -> u32
     }
 }
 
+// What a hex digit stands for.
 fn digit_of(b: u8) -> u32
+    requires { ⌜ isHex b ≡ true ⌝ }
     ensures { λ r. ⌜ r ≡ digit b ⌝ }
 {
-    if between(b'0', b'9', b) {
+    if b < b'A' {
         return b as u32 - 48;
     }
-    if between(b'A', b'F', b) {
-        return b as u32 - 55;
-    }
-    0
+    b as u32 - 55
 }
 
 fn byte_of(s: &[u8], at: usize, c: Class) -> Judgement

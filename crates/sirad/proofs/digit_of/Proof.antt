@@ -1,40 +1,22 @@
--- `sirad::digit_of` meets its contract. A figure, a letter, or neither.
+-- `sirad::digit_of` meets its contract. A hex digit below `A` is a figure, any other a letter.
 use borrow.Author.Needs.{needs}
-use mathlib.Core.Path.{sym, _∙_}
 use native.Mathlib.Omega.{arith}
-use Rattle.sirad.proofs.Numbers.{within-low, digit-figure, digit-letter, digit-none}
+use Rattle.digits.proofs.HexLaws.{hex-range}
+use Rattle.sirad.proofs.Numbers.{digit-figure, digit-letter}
 use Rattle.sirad.proofs.digit_of.Statement.{statement}
 use Rattle.sirad.proofs.digit_of.Tie as tie
 
-between-requires : tie.Need-between-requires
-between-requires c κs = search needs
-
 sub-result : tie.Need-sub-result
-sub-result c = within-low 48 57 (c .before .before .args .b) (sym (c .before .between .ensures) ∙ c .if1 .taken)
+sub-result c = let h = hex-range (c .before .args .b) (c .before .pre) in omega (arith, h .0)
 
 returns : tie.Need-returns
-returns c = digit-figure (c .before .before .args .b) (sym (c .before .between .ensures) ∙ c .if1 .taken)
-
-between-requires-2 : tie.Need-between-requires-2
-between-requires-2 c κs = search needs
+returns c = digit-figure (c .before .args .b) (c .before .pre) (c .if1 .taken)
 
 sub-result-2 : tie.Need-sub-result-2
-sub-result-2 c = let h = within-low 65 70 (c .before .before .before .before .args .b) (sym (c .before .between2 .ensures) ∙ c .if2 .taken) in omega arith
+sub-result-2 c = omega arith
 
 returns-2 : tie.Need-returns-2
-returns-2 c = digit-letter (c .before .before .before .before .args .b) (sym (c .before .before .before .between .ensures) ∙ c .before .before .if1 .left) (sym (c .before .between2 .ensures) ∙ c .if2 .taken)
-
-returns-3 : tie.Need-returns-3
-returns-3 c = digit-none (c .before .before .before .before .args .b) (sym (c .before .before .before .between .ensures) ∙ c .before .before .if1 .left) (sym (c .before .between2 .ensures) ∙ c .if2 .left)
+returns-2 c = digit-letter (c .before .args .b) (c .before .pre) (c .if1 .left)
 
 pub digit-of-spec : {M : Type 1} → statement M
-digit-of-spec =
-    tie.close
-    (tie.spec
-    between-requires
-    sub-result
-    returns
-    between-requires-2
-    sub-result-2
-    returns-2
-    returns-3)
+digit-of-spec = tie.close (tie.spec sub-result returns sub-result-2 returns-2)

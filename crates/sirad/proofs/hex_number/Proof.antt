@@ -31,7 +31,7 @@ is-hex-requires : tie.Need-is-hex-requires Inv-loop μ-loop
 is-hex-requires c κs = search needs
 
 digit-of-requires : tie.Need-digit-of-requires Inv-loop μ-loop
-digit-of-requires c κs = search needs
+digit-of-requires c κs = sym (c .before .is-hex .ensures) ∙ c .if2 .taken
 
 mul-v : tie.Need-mul-v Inv-loop μ-loop
 mul-v c = let l = c .before .before .before .before .before .before .loop in omega (arith, number-fits (l .i) (c .before .before .before .before .before .before .before .before .args .n) (l .v) (c .before .before .before .before .before .loop-test .taken) (c .before .before .before .before .before .before .before .before .pre) (l .inv .1))
