@@ -1,9 +1,14 @@
 #!/usr/bin/env bash
-# The static library of the gateway, from the crates just proved, linked to C: its answers at every refusal and state.
+# The C faces' static libraries, from the crates just proved, linked to one C program: their answers at every refusal and state.
 set -eu
 cd "$(dirname "$0")/.."
-rt staticlib gateway >target/gateway.log 2>&1 || { cat target/gateway.log; exit 1; }
+libraries=
+for crate in gateway readings; do
+  rt staticlib $crate >target/$crate.log 2>&1 || { cat target/$crate.log; exit 1; }
+  libraries="$libraries target/staticlib/lib$crate.a"
+done
+! nm -g --defined-only $libraries | grep -E ' [A-Z] ' | grep -v ' T vq_' || { echo "gateway: a name of the libraries that does not start with vq_"; exit 1; }
 work=$(mktemp -d) && trap 'rm -rf "$work"' EXIT
-cc -std=c11 -Wall -Wextra -Werror -I "${INCLUDE:-host/include}" -o "$work/gateway" tests/gateway.c target/staticlib/libgateway.a
+cc -std=c11 -Wall -Wextra -Werror -I "${INCLUDE:-host/include}" -o "$work/gateway" tests/gateway.c $libraries
 "$work/gateway" | diff tests/gateway.out - || { echo "gateway: the answers differ from tests/gateway.out"; exit 1; }
 echo "gateway: the C program's answers agree"

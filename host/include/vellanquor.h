@@ -13,7 +13,8 @@
  * that lie apart from them; neither is a null pointer, also where its size is 0. The functions keep no state and no
  * pointer, so any number of threads may call them at once.
  *
- * C99. Link with libgateway.a.
+ * C99. The functions are in two archives: libgateway.a has vq_judge and vq_millimetres, libreadings.a has vq_open_reading
+ * and vq_closed_reading. They need nothing of each other; link what is called, or both.
  */
 #ifndef VELLANQUOR_H
 #define VELLANQUOR_H
@@ -82,7 +83,7 @@ extern "C" {
  *   kind     of the frame, if whole; else 0
  *   reason   10 to 14 or 20 to 24, if bad; else 0
  *   length   of the frame, if whole; else 0
- * More bytes behind these never change a whole or a bad judgement. The place at the very end waits.
+ * More bytes behind these never change a whole or a bad judgement. The place at the very end waits. In libgateway.a.
  */
 struct vq_judgement {
     uint32_t refusal;
@@ -99,6 +100,7 @@ struct vq_judgement vq_judge(uint32_t dialect, const uint8_t *bytes, size_t coun
  * value, halves away from zero.
  *   refusal  0, or 30, or 31
  *   value    -1000000 to 1000000
+ * In libgateway.a.
  */
 struct vq_millimetres {
     uint32_t refusal;
@@ -116,6 +118,7 @@ struct vq_millimetres vq_millimetres(uint32_t bits);
  *   rows     written to the table
  *   skipped  bytes that no row covers, up to `next`
  *   next     the place where the reading stopped: row lengths and skipped bytes add up to it
+ * Both readings are in libreadings.a.
  */
 struct vq_reading {
     uint32_t refusal;

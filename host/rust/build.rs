@@ -1,8 +1,11 @@
-//! Links `libgateway.a` if the environment variable VQ_LIB_DIR names the directory that holds it.
+//! Links the static libraries if the environment variable VQ_LIB_DIR names the directory that holds them.
 //! Without the variable the package builds and tests alone.
 
 use std::env;
 use std::path::Path;
+
+/// The archives: `libNAME.a`.
+const LIBRARIES: [&str; 2] = ["gateway", "readings"];
 
 fn main() {
     println!("cargo:rustc-check-cfg=cfg(gateway_linked)");
@@ -11,10 +14,12 @@ fn main() {
     let Some(directory) = env::var_os("VQ_LIB_DIR") else {
         return;
     };
-    let archive = Path::new(&directory).join("libgateway.a");
-    assert!(archive.is_file(), "VQ_LIB_DIR is set, but {} is not there", archive.display());
-    println!("cargo:rerun-if-changed={}", archive.display());
     println!("cargo:rustc-link-search=native={}", Path::new(&directory).display());
-    println!("cargo:rustc-link-lib=static=gateway");
+    for library in LIBRARIES {
+        let archive = Path::new(&directory).join(format!("lib{library}.a"));
+        assert!(archive.is_file(), "VQ_LIB_DIR is set, but {} is not there", archive.display());
+        println!("cargo:rerun-if-changed={}", archive.display());
+        println!("cargo:rustc-link-lib=static={library}");
+    }
     println!("cargo:rustc-cfg=gateway_linked");
 }

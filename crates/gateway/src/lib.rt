@@ -3,13 +3,11 @@
 
 use capture::Verdict;
 use form::Judgement;
-use reading::Answer;
 ghost use mathlib.Core.Path.{_≡_};
-ghost use mathlib.Core.Bool.{true, false};
 ghost use Rattle.capture.specs.Dialects.{dialectOf};
 ghost use Rattle.capture.specs.Entries.{verdict};
 ghost use Rattle.units.specs.Units.{millimetres};
-ghost use Rattle.gateway.specs.Numbers.{judgementNumbers, verdictNumbers, quantityNumbers, answerNumbers, Reads};
+ghost use Rattle.gateway.specs.Numbers.{judgementNumbers, verdictNumbers, quantityNumbers};
 
 // What stands at an offset.
 pub const STATE_WHOLE: u32 = 0;
@@ -33,16 +31,6 @@ pub struct Judged {
 pub struct Millimetres {
     pub refusal: u32,
     pub value: i32,
-}
-
-// A reading: the refusal number (0: none), why it stopped, the rows written, the skipped bytes and the offset where it stopped.
-#[repr(C)]
-pub struct Read {
-    pub refusal: u32,
-    pub state: u32,
-    pub rows: usize,
-    pub skipped: usize,
-    pub next: usize,
 }
 
 fn judgement_numbers(j: Judgement) -> Judged
@@ -73,18 +61,6 @@ fn judgement_numbers(j: Judgement) -> Judged
     }
 }
 
-fn answer_numbers(a: Answer) -> Read
-    ensures { λ r. ⌜ r ≡ answerNumbers a ⌝ }
-{
-    Read {
-        refusal: a.refusal,
-        state: a.state,
-        rows: a.rows,
-        skipped: a.skipped,
-        next: a.next,
-    }
-}
-
 // The judgement of the bytes from `offset` on: `!E0000`, CR, LF in dialect 0 at offset 0 is whole, of kind 6 and 8 bytes.
 #[no_mangle]
 pub extern "C" fn vq_judge(dialect: u32, bytes: &[u8], offset: usize) -> Judged
@@ -112,20 +88,4 @@ pub extern "C" fn vq_millimetres(bits: u32) -> Millimetres
         refusal: q.refusal,
         value: q.value,
     }
-}
-
-// The open reading: rows of three numbers (offset, length, kind) in the table, up to where further bytes decide.
-#[no_mangle]
-pub extern "C" fn vq_open_reading(dialect: u32, bytes: &[u8], table: &mut [u32]) -> Read
-    ensures { λ r. ⌜ Reads dialect false (now (bytes .entry)) (now (table .entry)) r (now (table .exit)) ⌝ }
-{
-    answer_numbers(capture::open_reading(dialect, bytes, table))
-}
-
-// The closed reading: the same for bytes behind which nothing comes.
-#[no_mangle]
-pub extern "C" fn vq_closed_reading(dialect: u32, bytes: &[u8], table: &mut [u32]) -> Read
-    ensures { λ r. ⌜ Reads dialect true (now (bytes .entry)) (now (table .entry)) r (now (table .exit)) ⌝ }
-{
-    answer_numbers(capture::closed_reading(dialect, bytes, table))
 }

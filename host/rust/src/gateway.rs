@@ -1,5 +1,5 @@
-//! The static library `libgateway.a` behind safe functions. The module is there only if `VQ_LIB_DIR` names the directory
-//! that holds the library.
+//! The static libraries `libgateway.a` and `libreadings.a` behind safe functions. The module is there only if `VQ_LIB_DIR`
+//! names the directory that holds them.
 
 #![allow(unsafe_code)]
 
@@ -8,11 +8,14 @@ use crate::abi::{Judgement, Millimetres, Reading, Subject};
 extern "C" {
     fn vq_judge(dialect: u32, bytes: *const u8, count: usize, offset: usize) -> Judgement;
     fn vq_millimetres(bits: u32) -> Millimetres;
+}
+
+extern "C" {
     fn vq_open_reading(dialect: u32, bytes: *const u8, count: usize, table: *mut u32, numbers: usize) -> Reading;
     fn vq_closed_reading(dialect: u32, bytes: *const u8, count: usize, table: *mut u32, numbers: usize) -> Reading;
 }
 
-/// The linked library.
+/// The linked libraries.
 pub struct Gateway;
 
 impl Subject for Gateway {

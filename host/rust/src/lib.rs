@@ -13,8 +13,8 @@
 //! | [`listing`] | what the listing programs print | "The listing" |
 //!
 //! Beside the reader: [`generate`] makes captures from a seed, [`abi`] has the gateway's answers in their C form,
-//! [`compare`] runs any subject with that face against the reader, and `gateway` (there only if the library is linked)
-//! is the library as such a subject.
+//! [`compare`] runs any subject with that face against the reader, and `gateway` (there only if the libraries are
+//! linked) is them as such a subject.
 
 #![deny(unsafe_code)]
 #![warn(missing_docs)]

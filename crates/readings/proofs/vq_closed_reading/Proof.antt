@@ -1,9 +1,9 @@
--- `gateway::vq_closed_reading` meets its contract: the numbers are those of the answer, and the table is the reading's.
+-- `readings::vq_closed_reading` meets its contract: the numbers are those of the answer, and the table is the reading's.
 use mathlib.Core.Path.{ap, _∙_}
-use Rattle.gateway.specs.Numbers.{answerNumbers}
+use Rattle.readings.specs.Numbers.{answerNumbers}
 use borrow.Author.Needs.{needs}
-use Rattle.gateway.proofs.vq_closed_reading.Statement.{statement}
-use Rattle.gateway.proofs.vq_closed_reading.Tie as tie
+use Rattle.readings.proofs.vq_closed_reading.Statement.{statement}
+use Rattle.readings.proofs.vq_closed_reading.Tie as tie
 
 closed-reading-requires : tie.Need-closed-reading-requires
 closed-reading-requires c κs = search needs

@@ -1,9 +1,9 @@
--- `gateway::vq_open_reading` meets its contract: the numbers are those of the answer, and the table is the reading's.
+-- `readings::vq_open_reading` meets its contract: the numbers are those of the answer, and the table is the reading's.
 use mathlib.Core.Path.{ap, _∙_}
-use Rattle.gateway.specs.Numbers.{answerNumbers}
+use Rattle.readings.specs.Numbers.{answerNumbers}
 use borrow.Author.Needs.{needs}
-use Rattle.gateway.proofs.vq_open_reading.Statement.{statement}
-use Rattle.gateway.proofs.vq_open_reading.Tie as tie
+use Rattle.readings.proofs.vq_open_reading.Statement.{statement}
+use Rattle.readings.proofs.vq_open_reading.Tie as tie
 
 open-reading-requires : tie.Need-open-reading-requires
 open-reading-requires c κs = search needs
