@@ -6,6 +6,7 @@ use Prim.Native.Nat.{ℕ, zero, suc, _+_, _-_, _*_, _<_, _≤_}
 use native.Mathlib.Omega.{arith}
 use lib.Dec.{eqb}
 use lib.ListN.{length, take, drop, getD}
+use lib.Seq.{take-all}
 use borrow.Author.Tests.{eq-eqb, ne-eqb, eqb-true}
 use Rattle.digits.proofs.Choices.{test, both-ways}
 use Rattle.digits.specs.LittleEndian.{fromLittle, littleAt}
@@ -103,6 +104,10 @@ module _ (P : Profile) (n k room at : ℕ) (bs : List ℕ) (some : k ≡ 0 → �
 
         same : at + 8 * k + room ≡ at + 8 + m + 8 * (k - 1) + (room - m)
         same = omega (arith, positive)
+
+-- the part of the bytes that is all of them
+pub all-of : (P : Profile) (n k room at : ℕ) (bs : List ℕ) {j : Judgement} → j ≡ judgeAt (records P n k room) at (take (length bs - 0) bs) → j ≡ judgeAt (records P n k room) at bs
+all-of P n k room at bs e = e ∙ ap (λ (l : List ℕ). judgeAt (records P n k room) at l) (take-all (length bs - 0) bs (omega arith))
 
 -- -- The header
 

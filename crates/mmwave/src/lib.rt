@@ -422,7 +422,14 @@ fn walk_inside(s: &[u8], at: usize, objects: u32, k: u32, room: u64) -> u32
             if k == 1 {
                 return 0;
             }
-            return walk_inside(s, at + 8 + (m as usize), objects, k - 1, room - (m as u64));
+            // A slice made anew: one handed on as it came is copied in one piece, which waits for both its halves.
+            return walk_inside(
+                &s[0..],
+                at + 8 + (m as usize),
+                objects,
+                k - 1,
+                room - (m as u64),
+            );
         }
         return BAD_LENGTH;
     }

@@ -1,10 +1,10 @@
 -- The first record, and then the remaining ones, one fewer; all of them lie within the bytes.
+use borrow.Author.Needs.{needs}
 use mathlib.Core.Path.{_≡_, refl, sym, ap, _∙_}
 use native.Mathlib.Omega.{arith}
 use Rattle.mmwave.specs.MmWave.{mmWave}
 use Rattle.mmwave.proofs.MmWaveSound.{mmWave-sound}
-use Rattle.mmwave.proofs.Within.{passed-fits, settled-none, settled-type, settled-length, settled-more}
-use borrow.Author.Needs.{needs}
+use Rattle.mmwave.proofs.Within.{passed-fits, settled-none, settled-type, settled-length, settled-more, all-of}
 use Prim.Native.Nat.{ℕ, _+_, _-_, _<_}
 use borrow.Fn.Kinds.{In}
 use borrow.Fn.PlainCycle.{Measures, is, falls, and}
@@ -128,6 +128,48 @@ walk-inside-returns : (t : ℕ) → walk-inside-lts.Need-returns (
 walk-inside-returns t c = let a = c .before .before .before .before .before .before .before .before .before .args in let h = c .before .before .before .before .before .before .before .before .before .pre .1 in let f = passed-fits mmWave mmWave-sound (c .before .before .before .before .before .before .before .before .before .args .objects) _ _ _ _ (λ e. omega (arith, e, c .before .before .before .before .before .before .before .before .before .pre .1 .0)) (sym (c .before .before .length-passes .ensures) ∙ c .before .if2 .taken) in
     settled-more mmWave (a .objects) (a .k) (a .room) (a .at) (a .s .now) (λ e. omega (arith, e, c .before .before .before .before .before .before .before .before .before .pre .1 .0)) (c .before .before .before .before .before .before .before .field .ensures) (c .before .before .before .before .before .before .rule-of .ensures) (c .before .before .before .before .before .some-length-fits .ensures) (c .before .before .before .field2 .ensures) (c .before .before .length-passes .ensures) (c .before .before .before .before .if1 .taken) 0 f (h .1) (c .before .if2 .taken) (settled-none mmWave (a .objects) (a .k - 1) (a .room - c .before .before .before .field2 .result) (a .at + 8 + c .before .before .before .field2 .result) (a .s .now) (omega (arith, c .if3 .taken)) (omega (arith, f, h .0, h .1)))
 
+walk-inside-sub-walk-inside : (t : ℕ) → walk-inside-lts.Need-sub-walk-inside (
+  field-reads.Asked,
+  field-reads.Learnt,
+  rule-of-reads.Asked,
+  rule-of-reads.Learnt,
+  some-length-fits-reads.Asked,
+  some-length-fits-reads.Learnt,
+  length-passes-reads.Asked,
+  length-passes-reads.Learnt,
+  walk-inside-below t,
+  walk-inside.Post,
+) (walk-inside-at t) walk-inside.Post
+walk-inside-sub-walk-inside t c = search needs
+
+walk-inside-part-walk-inside-start : (t : ℕ) → walk-inside-lts.Need-part-walk-inside-start (
+  field-reads.Asked,
+  field-reads.Learnt,
+  rule-of-reads.Asked,
+  rule-of-reads.Learnt,
+  some-length-fits-reads.Asked,
+  some-length-fits-reads.Learnt,
+  length-passes-reads.Asked,
+  length-passes-reads.Learnt,
+  walk-inside-below t,
+  walk-inside.Post,
+) (walk-inside-at t) walk-inside.Post
+walk-inside-part-walk-inside-start t c = search needs
+
+walk-inside-part-walk-inside-end : (t : ℕ) → walk-inside-lts.Need-part-walk-inside-end (
+  field-reads.Asked,
+  field-reads.Learnt,
+  rule-of-reads.Asked,
+  rule-of-reads.Learnt,
+  some-length-fits-reads.Asked,
+  some-length-fits-reads.Learnt,
+  length-passes-reads.Asked,
+  length-passes-reads.Learnt,
+  walk-inside-below t,
+  walk-inside.Post,
+) (walk-inside-at t) walk-inside.Post
+walk-inside-part-walk-inside-end t c = search needs
+
 walk-inside-add-walk-inside : (t : ℕ) → walk-inside-lts.Need-add-walk-inside (
   field-reads.Asked,
   field-reads.Learnt,
@@ -168,9 +210,9 @@ walk-inside-add-walk-inside-2 : (t : ℕ) → walk-inside-lts.Need-add-walk-insi
   walk-inside-below t,
   walk-inside.Post,
 ) (walk-inside-at t) walk-inside.Post
-walk-inside-add-walk-inside-2 t c = let f = passed-fits mmWave mmWave-sound (c .before .before .before .before .before .before .before .before .before .args .objects) _ _ _ _ (λ e. omega (arith, e, c .before .before .before .before .before .before .before .before .before .pre .1 .0)) (sym (c .before .before .length-passes .ensures) ∙ c .before .if2 .taken) in let h = c .before .before .before .before .before .before .before .before .before .pre .1 in omega (arith, f, h .0, h .1)
+walk-inside-add-walk-inside-2 t c = let f = passed-fits mmWave mmWave-sound (c .before .before .before .before .before .before .before .before .before .before .args .objects) _ _ _ _ (λ e. omega (arith, e, c .before .before .before .before .before .before .before .before .before .before .pre .1 .0)) (sym (c .before .before .before .length-passes .ensures) ∙ c .before .before .if2 .taken) in let h = c .before .before .before .before .before .before .before .before .before .before .pre .1 in omega (arith, f, h .0, h .1)
 
-walk-inside-sub-walk-inside : (t : ℕ) → walk-inside-lts.Need-sub-walk-inside (
+walk-inside-sub-walk-inside-2 : (t : ℕ) → walk-inside-lts.Need-sub-walk-inside-2 (
   field-reads.Asked,
   field-reads.Learnt,
   rule-of-reads.Asked,
@@ -182,7 +224,7 @@ walk-inside-sub-walk-inside : (t : ℕ) → walk-inside-lts.Need-sub-walk-inside
   walk-inside-below t,
   walk-inside.Post,
 ) (walk-inside-at t) walk-inside.Post
-walk-inside-sub-walk-inside t c = search needs
+walk-inside-sub-walk-inside-2 t c = search needs
 
 walk-inside-cast-walk-inside-2 : (t : ℕ) → walk-inside-lts.Need-cast-walk-inside-2 (
   field-reads.Asked,
@@ -198,7 +240,7 @@ walk-inside-cast-walk-inside-2 : (t : ℕ) → walk-inside-lts.Need-cast-walk-in
 ) (walk-inside-at t) walk-inside.Post
 walk-inside-cast-walk-inside-2 t c = search needs
 
-walk-inside-sub-walk-inside-2 : (t : ℕ) → walk-inside-lts.Need-sub-walk-inside-2 (
+walk-inside-sub-walk-inside-3 : (t : ℕ) → walk-inside-lts.Need-sub-walk-inside-3 (
   field-reads.Asked,
   field-reads.Learnt,
   rule-of-reads.Asked,
@@ -210,7 +252,7 @@ walk-inside-sub-walk-inside-2 : (t : ℕ) → walk-inside-lts.Need-sub-walk-insi
   walk-inside-below t,
   walk-inside.Post,
 ) (walk-inside-at t) walk-inside.Post
-walk-inside-sub-walk-inside-2 t c = passed-fits mmWave mmWave-sound (c .before .before .before .before .before .before .before .before .before .args .objects) _ _ _ _ (λ e. omega (arith, e, c .before .before .before .before .before .before .before .before .before .pre .1 .0)) (sym (c .before .before .length-passes .ensures) ∙ c .before .if2 .taken)
+walk-inside-sub-walk-inside-3 t c = passed-fits mmWave mmWave-sound (c .before .before .before .before .before .before .before .before .before .before .args .objects) _ _ _ _ (λ e. omega (arith, e, c .before .before .before .before .before .before .before .before .before .before .pre .1 .0)) (sym (c .before .before .before .length-passes .ensures) ∙ c .before .before .if2 .taken)
 
 walk-inside-walk-inside-requires : (t : ℕ) → walk-inside-lts.Need-walk-inside-requires (
   field-reads.Asked,
@@ -224,7 +266,7 @@ walk-inside-walk-inside-requires : (t : ℕ) → walk-inside-lts.Need-walk-insid
   walk-inside-below t,
   walk-inside.Post,
 ) (walk-inside-at t) walk-inside.Post
-walk-inside-walk-inside-requires t c κs = let f = passed-fits mmWave mmWave-sound (c .before .before .before .before .before .before .before .before .before .args .objects) _ _ _ _ (λ e. omega (arith, e, c .before .before .before .before .before .before .before .before .before .pre .1 .0)) (sym (c .before .before .length-passes .ensures) ∙ c .before .if2 .taken) in let h = c .before .before .before .before .before .before .before .before .before .pre in (omega (arith, h .0, c .if3 .left), (omega (arith, h .1 .0, c .if3 .left), omega (arith, f, h .1 .0, h .1 .1)))
+walk-inside-walk-inside-requires t c κs = let f = passed-fits mmWave mmWave-sound (c .before .before .before .before .before .before .before .before .before .before .args .objects) _ _ _ _ (λ e. omega (arith, e, c .before .before .before .before .before .before .before .before .before .before .pre .1 .0)) (sym (c .before .before .before .length-passes .ensures) ∙ c .before .before .if2 .taken) in let h = c .before .before .before .before .before .before .before .before .before .before .pre in (omega (arith, h .0, c .before .if3 .left), (omega (arith, h .1 .0, c .before .if3 .left), omega (arith, f, h .1 .0, h .1 .1)))
 
 walk-inside-returns-2 : (t : ℕ) → walk-inside-lts.Need-returns-2 (
   field-reads.Asked,
@@ -238,8 +280,8 @@ walk-inside-returns-2 : (t : ℕ) → walk-inside-lts.Need-returns-2 (
   walk-inside-below t,
   walk-inside.Post,
 ) (walk-inside-at t) walk-inside.Post
-walk-inside-returns-2 t c = let a = c .before .before .before .before .before .before .before .before .before .before .args in let h = c .before .before .before .before .before .before .before .before .before .before .pre .1 in let f = passed-fits mmWave mmWave-sound (c .before .before .before .before .before .before .before .before .before .before .args .objects) _ _ _ _ (λ e. omega (arith, e, c .before .before .before .before .before .before .before .before .before .before .pre .1 .0)) (sym (c .before .before .before .length-passes .ensures) ∙ c .before .before .if2 .taken) in
-    settled-more mmWave (a .objects) (a .k) (a .room) (a .at) (a .s .now) (λ e. omega (arith, e, c .before .before .before .before .before .before .before .before .before .before .pre .1 .0)) (c .before .before .before .before .before .before .before .before .field .ensures) (c .before .before .before .before .before .before .before .rule-of .ensures) (c .before .before .before .before .before .before .some-length-fits .ensures) (c .before .before .before .before .field2 .ensures) (c .before .before .before .length-passes .ensures) (c .before .before .before .before .before .if1 .taken) _ f (h .1) (c .before .before .if2 .taken) (c .walk-inside .ensures)
+walk-inside-returns-2 t c = let a = c .before .before .before .before .before .before .before .before .before .before .before .args in let h = c .before .before .before .before .before .before .before .before .before .before .before .pre .1 in let f = passed-fits mmWave mmWave-sound (c .before .before .before .before .before .before .before .before .before .before .before .args .objects) _ _ _ _ (λ e. omega (arith, e, c .before .before .before .before .before .before .before .before .before .before .before .pre .1 .0)) (sym (c .before .before .before .before .length-passes .ensures) ∙ c .before .before .before .if2 .taken) in
+    settled-more mmWave (a .objects) (a .k) (a .room) (a .at) (a .s .now) (λ e. omega (arith, e, c .before .before .before .before .before .before .before .before .before .before .before .pre .1 .0)) (c .before .before .before .before .before .before .before .before .before .field .ensures) (c .before .before .before .before .before .before .before .before .rule-of .ensures) (c .before .before .before .before .before .before .before .some-length-fits .ensures) (c .before .before .before .before .before .field2 .ensures) (c .before .before .before .before .length-passes .ensures) (c .before .before .before .before .before .before .if1 .taken) _ f (h .1) (c .before .before .before .if2 .taken) (all-of mmWave (a .objects) (a .k - 1) (a .room - c .before .before .before .before .before .field2 .result) (a .at + 8 + c .before .before .before .before .before .field2 .result) (a .s .now) (c .walk-inside .ensures))
 
 walk-inside-returns-3 : (t : ℕ) → walk-inside-lts.Need-returns-3 (
   field-reads.Asked,
@@ -293,12 +335,15 @@ pub +walk-inside-spec : {M : Type 1} → statement M
     (walk-inside-field-requires-2 t)
     (walk-inside-length-passes-requires t)
     (walk-inside-returns t)
+    (walk-inside-sub-walk-inside t)
+    (walk-inside-part-walk-inside-start t)
+    (walk-inside-part-walk-inside-end t)
     (walk-inside-add-walk-inside t)
     (walk-inside-cast-walk-inside t)
     (walk-inside-add-walk-inside-2 t)
-    (walk-inside-sub-walk-inside t)
-    (walk-inside-cast-walk-inside-2 t)
     (walk-inside-sub-walk-inside-2 t)
+    (walk-inside-cast-walk-inside-2 t)
+    (walk-inside-sub-walk-inside-3 t)
     (walk-inside-walk-inside-requires t)
     (walk-inside-returns-2 t)
     (walk-inside-returns-3 t)
