@@ -13,7 +13,7 @@ if command -v c++ >/dev/null; then
   c++ -Wall -Wextra -Werror -Ihost/include -fsyntax-only "$built/header.cc" || { echo "host: vellanquor.h in C++"; exit 1; }
 fi
 
-for crate in gateway readings; do
+for crate in gateway readings fields; do
   [ -f "$library/lib$crate.a" ] || rt staticlib $crate >target/host.log 2>&1 || { cat target/host.log; exit 1; }
 done
 export VQ_LIB_DIR=$library

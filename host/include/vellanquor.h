@@ -4,21 +4,23 @@
  * It reads two dialects of radar bytes:
  *   0  SiRad    frames of printable bytes, kinds 1 to 6
  *   1  mmWave   packets of little-endian numbers, kind 16
+ * and a third wire, DemoRad's command words.
  *
  * Each function tests what it is handed and answers bad input with a refusal number; nothing that the bytes hold stops or
  * harms it. Look at `refusal` first: it is 0 if there is an answer, and on a refusal every other number is 0 and nothing
  * is written.
  *
- * What the caller sees to: `bytes` points to `count` readable bytes, and `table` to `numbers` writable 32-bit numbers
- * that lie apart from them; neither is a null pointer, also where its size is 0. The functions keep no state and no
- * pointer, so any number of threads may call them at once.
+ * What the caller sees to: `bytes` (`frame`, `packet`, `content`) points to `count` readable bytes, `table` to `numbers`
+ * writable 32-bit numbers and `output` to `room` writable bytes that lie apart from them; none is a null pointer, also
+ * where its size is 0. The functions keep no state and no pointer, so any number of threads may call them at once.
  *
- * C99. The functions are in two archives: libgateway.a has vq_judge and vq_millimetres, libreadings.a has vq_open_reading
- * and vq_closed_reading. They need nothing of each other; link what is called, or both.
+ * C99. The functions are in three archives: libgateway.a has vq_judge and vq_millimetres, libreadings.a vq_open_reading
+ * and vq_closed_reading, libfields.a all others. They need nothing of each other; link those that are called, or all.
  */
 #ifndef VELLANQUOR_H
 #define VELLANQUOR_H
 
+#include <stdbool.h>
 #include <stddef.h>
 #include <stdint.h>
 
@@ -73,8 +75,22 @@ extern "C" {
 #define VQ_REFUSED_DIALECT 1u    /* a dialect other than 0 and 1 */
 #define VQ_REFUSED_PLACE 2u      /* an offset beyond the count; equal is fine */
 #define VQ_REFUSED_SIZE 3u       /* more than VQ_MAX_BYTES bytes */
+#define VQ_REFUSED_FRAME 5u      /* the bytes are not exactly one whole frame of the wanted kind */
+#define VQ_REFUSED_INDEX 6u      /* an index at or over the count, or no record starts at the place */
+#define VQ_REFUSED_NO_POINTS 7u  /* no record of type 1 */
 #define VQ_REFUSED_NOT_FINITE 30u /* the float is infinite or no number */
 #define VQ_REFUSED_TOO_FAR 31u   /* the float's magnitude is over 1000 m */
+#define VQ_REFUSED_NO_HEADER 40u /* a command of under 4 bytes */
+#define VQ_REFUSED_REST_BIT 41u  /* a rest bit of the header word is set */
+#define VQ_REFUSED_NO_LENGTH 42u /* a command length of 0 */
+#define VQ_REFUSED_COUNT 43u     /* the byte count is not four times the command length */
+#define VQ_REFUSED_CODE 44u      /* an unknown command code */
+#define VQ_REFUSED_PAYLOAD 45u   /* the payload count is wrong for the code, or over 30 */
+#define VQ_REFUSED_SELECTION 46u /* a selection word is out of range */
+#define VQ_REFUSED_ENCODING 50u  /* a value without an encoding */
+#define VQ_REFUSED_OUTPUT 51u    /* the output is too short */
+#define VQ_REFUSED_DATA 52u      /* over 65,535 data characters */
+#define VQ_REFUSED_KIND 53u      /* a kind that has no data frame */
 
 /*
  * The judgement on the bytes from `offset` on.
@@ -141,6 +157,159 @@ struct vq_reading vq_open_reading(uint32_t dialect, const uint8_t *bytes, size_t
  */
 struct vq_reading vq_closed_reading(uint32_t dialect, const uint8_t *bytes, size_t count, uint32_t *table,
                                     size_t numbers);
+
+/*
+ * Fields, in libfields.a. A reader takes bytes that are exactly one whole frame or packet, as a row of a reading names
+ * them. A writer writes to the start of the output and changes the bytes it produced only; it answers their number.
+ */
+struct vq_written {
+    uint32_t refusal;
+    uint64_t size;
+};
+
+/*
+ * The data of a frame R, P or C: its kind (1 to 3), and the part of the frame that holds its characters.
+ *   refusal  0, or 5; in writing 0, or 53, 52, 50, 51: the first of them in this order that applies
+ */
+struct vq_data_frame {
+    uint32_t refusal;
+    uint32_t kind;
+    uint64_t start;
+    uint64_t size;
+};
+
+struct vq_data_frame vq_read_data(const uint8_t *frame, size_t count);
+struct vq_written vq_write_data(uint8_t *output, size_t room, uint32_t kind, const uint8_t *content, size_t count);
+
+/*
+ * A T frame, 230 bytes: all sixteen blocks are targets, in wire order. Gain and magnitude are characters (34 to 254),
+ * format and number 0 to 15. Writing ignores the refusal, so a frame that was read can be written as it is.
+ *   refusal  0, or 5; in writing 0, or 50, 51
+ */
+struct vq_target {
+    uint8_t number;
+    uint16_t distance;
+    uint8_t magnitude;
+    int16_t phase;
+};
+
+struct vq_target_frame {
+    uint32_t refusal;
+    uint8_t format;
+    uint8_t gain;
+    struct vq_target targets[16];
+};
+
+struct vq_target_frame vq_read_targets(const uint8_t *frame, size_t count);
+struct vq_written vq_write_targets(uint8_t *output, size_t room, struct vq_target_frame frame);
+
+/*
+ * A U frame, 26 bytes. The accuracy is in tenths of a millimetre, as sent, and in whole millimetres, halves up.
+ *   refusal  0, or 5; in writing 0, or 50, 51
+ */
+struct vq_status_frame {
+    uint32_t refusal;
+    uint8_t format;
+    uint8_t gain;
+    uint16_t accuracy;
+    uint16_t accuracy_mm;
+    uint16_t max_range;
+    uint16_t ramp_time;
+    uint16_t bandwidth;
+    uint16_t time_difference;
+};
+
+struct vq_status_frame vq_read_status(const uint8_t *frame, size_t count);
+struct vq_written vq_write_status(uint8_t *output, size_t room, uint8_t format, uint8_t gain, uint16_t accuracy,
+                                  uint16_t max_range, uint16_t ramp_time, uint16_t bandwidth,
+                                  uint16_t time_difference);
+
+/*
+ * An E frame, 8 bytes.
+ *   refusal  0, or 5; in writing 0, or 51
+ */
+struct vq_error_frame {
+    uint32_t refusal;
+    uint16_t flags;
+};
+
+struct vq_error_frame vq_read_error(const uint8_t *frame, size_t count);
+struct vq_written vq_write_error(uint8_t *output, size_t room, uint16_t flags);
+
+/*
+ * The header of an mmWave packet.
+ *   refusal  0, or 5
+ */
+struct vq_header {
+    uint32_t refusal;
+    uint32_t version;
+    uint32_t total;
+    uint32_t platform;
+    uint32_t frame;
+    uint32_t time;
+    uint32_t objects;
+    uint32_t records;
+    uint32_t subframe;
+};
+
+struct vq_header vq_header(const uint8_t *packet, size_t count);
+
+/*
+ * Record `index` of a packet, counted from 0: its type, and the part of the packet that is its payload.
+ *   refusal  0, or 5, 6
+ */
+struct vq_record {
+    uint32_t refusal;
+    uint32_t type;
+    uint64_t start;
+    uint64_t length;
+};
+
+struct vq_record vq_record(const uint8_t *packet, size_t count, size_t index);
+
+/*
+ * The record that starts at `place`, and the place behind it. From 40 on, steps give record 0, 1, .. and then 6.
+ *   refusal  0, or 5, 6: then `next` is `place`
+ */
+struct vq_step {
+    uint32_t refusal;
+    uint32_t type;
+    uint64_t start;
+    uint64_t length;
+    uint64_t next;
+};
+
+struct vq_step vq_step(const uint8_t *packet, size_t count, size_t place);
+
+/*
+ * Point `index` of a packet's first record of type 1: X, Y and Z in millimetres, and the 32 bits of the Doppler velocity.
+ *   refusal  0, or 5, 7, 6, then 30 or 31 of the first coordinate that has one
+ */
+struct vq_point {
+    uint32_t refusal;
+    int32_t x;
+    int32_t y;
+    int32_t z;
+    uint32_t doppler;
+};
+
+struct vq_point vq_point(const uint8_t *packet, size_t count, size_t index);
+
+/*
+ * A DemoRad command: the bytes are exactly one command. Words behind the count are 0 in reading; writing ignores them,
+ * and the refusal.
+ *   refusal  0, or 40 to 46, the least that applies; in writing 0, or 44, 45, 46, 51
+ */
+struct vq_command {
+    uint32_t refusal;
+    bool rd;
+    uint32_t code;
+    uint32_t count;
+    uint32_t words[30];
+};
+
+struct vq_command vq_read_command(const uint8_t *bytes, size_t count);
+struct vq_written vq_write_command(uint8_t *output, size_t room, struct vq_command command);
 
 #ifdef __cplusplus
 }

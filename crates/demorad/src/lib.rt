@@ -51,6 +51,7 @@ const REST: u32 = 0x20_0000;
 const LENGTH: u32 = 0x1_0000;
 
 // A command that was read; refused: its number, and every other number 0.
+#[repr(C)]
 pub struct Command {
     pub refusal: u32,
     pub rd: bool,

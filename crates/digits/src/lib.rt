@@ -9,6 +9,7 @@ ghost use Rattle.digits.specs.Stores.{wordStored};
 pub const OUTPUT_TOO_SHORT: u32 = 51;
 
 // What a writer answers: the refusal number (0: none) and the bytes produced.
+#[repr(C)]
 pub struct Written {
     pub refusal: u32,
     pub size: usize,

@@ -1,0 +1,175 @@
+/* Calls each function of the fields' library and prints its numbers. */
+#include <inttypes.h>
+#include <stddef.h>
+#include <stdint.h>
+#include <stdio.h>
+#include <string.h>
+
+#include "vellanquor.h"
+
+#define TEXT(s) (const uint8_t *)(s), sizeof(s) - 1
+
+static uint8_t output[240];
+
+/* The writer's answer, and the output: `.` for each byte that stays 7. */
+static void written(const char *what, struct vq_written w, size_t shown)
+{
+    printf("%s: %" PRIu32 " %" PRIu64 " |", what, w.refusal, w.size);
+    for (size_t i = 0; i < shown; i++)
+        putchar(output[i] == 7 ? '.' : output[i] < 32 || output[i] > 126 ? '?' : output[i]);
+    putchar('\n');
+    memset(output, 7, sizeof output);
+}
+
+static void data(const char *what, const uint8_t *frame, size_t count)
+{
+    struct vq_data_frame f = vq_read_data(frame, count);
+    printf("data %s: %" PRIu32 " %" PRIu32 " %" PRIu64 " %" PRIu64 "\n", what, f.refusal, f.kind, f.start, f.size);
+}
+
+static void targets(const char *what, const uint8_t *frame, size_t count)
+{
+    struct vq_target_frame f = vq_read_targets(frame, count);
+    printf("targets %s: %" PRIu32 " %u %u", what, f.refusal, f.format, f.gain);
+    for (int i = 0; i < 16; i += 15)
+        printf(" | %u %u %u %d", f.targets[i].number, f.targets[i].distance, f.targets[i].magnitude, f.targets[i].phase);
+    putchar('\n');
+}
+
+static void status(const char *what, const uint8_t *frame, size_t count)
+{
+    struct vq_status_frame f = vq_read_status(frame, count);
+    printf("status %s: %" PRIu32 " %u %u %u %u %u %u %u %u\n", what, f.refusal, f.format, f.gain, f.accuracy, f.accuracy_mm, f.max_range, f.ramp_time, f.bandwidth, f.time_difference);
+}
+
+static void error(const char *what, const uint8_t *frame, size_t count)
+{
+    struct vq_error_frame f = vq_read_error(frame, count);
+    printf("error %s: %" PRIu32 " %u\n", what, f.refusal, f.flags);
+}
+
+static void sirad(void)
+{
+    uint8_t frame[230];
+    struct vq_target_frame f = {9, 15, 254, {{0, 0, 0, 0}}};
+
+    data("of kind 1", TEXT("!R000100000000Z\r\n"));
+    data("of kind 6", TEXT("!E0000\r\n"));
+    written("write data", vq_write_data(output, 20, 2, TEXT("Z\"")), 20);
+    written("write data, room for 17", vq_write_data(output, 17, 2, TEXT("Z\"")), 20);
+    written("write data with a space", vq_write_data(output, 20, 2, TEXT("Z ")), 20);
+    written("write data of kind 4", vq_write_data(output, 20, 4, TEXT("Z ")), 20);
+
+    for (int i = 0; i < 16; i++)
+        f.targets[i] = (struct vq_target){(uint8_t)(15 - i), (uint16_t)(4369 * i), (uint8_t)(34 + 14 * i), (int16_t)(4369 * i - 32768)};
+    struct vq_written w = vq_write_targets(output, sizeof output, f);
+    memcpy(frame, output, sizeof frame);
+    written("write targets", w, 20);
+    targets("written", frame, sizeof frame);
+    targets("cut", frame, sizeof frame - 1);
+    written("write targets, room for 229", vq_write_targets(output, 229, f), 20);
+    f.targets[15].number = 16;
+    written("write targets, number 16", vq_write_targets(output, 229, f), 20);
+
+    status("of kind 5", TEXT("!U5Z0205FFFF00000A0B0001\r\n"));
+    status("of kind 6", TEXT("!E0000\r\n"));
+    written("write status", vq_write_status(output, sizeof output, 5, 'Z', 0x205, 0xFFFF, 0, 0xA0B, 1), 30);
+    written("write status, gain 255", vq_write_status(output, sizeof output, 5, 255, 0x205, 0xFFFF, 0, 0xA0B, 1), 30);
+
+    error("of kind 6", TEXT("!EFE01\r\n"));
+    error("cut", TEXT("!EFE01\r"));
+    written("write error", vq_write_error(output, 8, 0xFE01), 10);
+    written("write error, room for 7", vq_write_error(output, 7, 0xFE01), 10);
+}
+
+static void put(uint8_t *at, uint32_t word)
+{
+    for (int i = 0; i < 4; i++)
+        at[i] = (uint8_t)(word >> 8 * i);
+}
+
+static void record(const char *what, struct vq_record r)
+{
+    printf("record %s: %" PRIu32 " %" PRIu32 " %" PRIu64 " %" PRIu64 "\n", what, r.refusal, r.type, r.start, r.length);
+}
+
+static void step(const char *what, struct vq_step s)
+{
+    printf("step %s: %" PRIu32 " %" PRIu32 " %" PRIu64 " %" PRIu64 " %" PRIu64 "\n", what, s.refusal, s.type, s.start, s.length, s.next);
+}
+
+static void point(const char *what, struct vq_point p)
+{
+    printf("point %s: %" PRIu32 " %" PRId32 " %" PRId32 " %" PRId32 " %08" PRIX32 "\n", what, p.refusal, p.x, p.y, p.z, p.doppler);
+}
+
+/* 96 bytes: a record of type 77 with three bytes, and two points behind it. */
+static void mmwave(void)
+{
+    static const uint32_t header[8] = {0x03060001, 96, 0xA6843, 7, 99, 2, 2, 3};
+    static const uint32_t first[2] = {77, 3};
+    static const uint32_t points[8] = {1, 32, 0x3D800000, 0xBD800000, 0x447A0000, 0xFFFFFFFF, 0x3F800000, 0x447A0001};
+    uint8_t packet[96] = {2, 1, 4, 3, 6, 5, 8, 7};
+    for (int i = 0; i < 8; i++)
+        put(packet + 8 + 4 * i, header[i]);
+    for (int i = 0; i < 2; i++)
+        put(packet + 40 + 4 * i, first[i]);
+    for (int i = 0; i < 8; i++)
+        put(packet + 51 + 4 * i, points[i]);
+
+    for (size_t count = 96; count > 94; count--) {
+        struct vq_header h = vq_header(packet, count);
+        printf("header of %zu bytes: %" PRIu32 " %08" PRIX32 " %" PRIu32 " %" PRIX32 " %" PRIu32 " %" PRIu32 " %" PRIu32 " %" PRIu32 " %" PRIu32 "\n", count, h.refusal, h.version, h.total, h.platform, h.frame, h.time, h.objects, h.records, h.subframe);
+    }
+    record("0", vq_record(packet, 96, 0));
+    record("1", vq_record(packet, 96, 1));
+    record("2", vq_record(packet, 96, 2));
+    record("0 of a cut packet", vq_record(packet, 95, 0));
+    step("at 40", vq_step(packet, 96, 40));
+    step("at 51", vq_step(packet, 96, 51));
+    step("at 91", vq_step(packet, 96, 91));
+    step("at 40 of a cut packet", vq_step(packet, 95, 40));
+    point("0", vq_point(packet, 96, 0));
+    point("1", vq_point(packet, 96, 1));
+    point("2", vq_point(packet, 96, 2));
+    packet[51] = 10;
+    point("0 of a packet without points", vq_point(packet, 96, 0));
+    point("0 of a cut packet", vq_point(packet, 95, 0));
+}
+
+static void command(const char *what, const uint8_t *bytes, size_t count)
+{
+    struct vq_command c = vq_read_command(bytes, count);
+    printf("command %s: %" PRIu32 " %d %04" PRIX32 " %" PRIu32 " %" PRIu32 " %" PRIu32 "\n", what, c.refusal, c.rd, c.code, c.count, c.words[0], c.words[29]);
+}
+
+static void demorad(void)
+{
+    struct vq_command c = {9, true, 0x9017, 30, {'A', 3}};
+    uint8_t bytes[124];
+    c.words[29] = 0x44434241;
+
+    command("6006", TEXT("\x06\x60\x02\x80\x04\0\0\0"));
+    command("6006, selection 5", TEXT("\x06\x60\x02\x80\x05\0\0\0"));
+    command("of three bytes", TEXT("\x06\x60\x02"));
+    struct vq_written w = vq_write_command(output, sizeof output, c);
+    memcpy(bytes, output, sizeof bytes);
+    written("write command", w, 130);
+    command("written", bytes, sizeof bytes);
+    written("write command, room for 123", vq_write_command(output, 123, c), 10);
+    c.words[1] = 4;
+    written("write command, selection 4", vq_write_command(output, 123, c), 10);
+    c.count = 31;
+    written("write command, 31 words", vq_write_command(output, 123, c), 10);
+    c.code = 0x19017;
+    written("write command, code 19017", vq_write_command(output, 123, c), 10);
+}
+
+int main(void)
+{
+    memset(output, 7, sizeof output);
+    sirad();
+    mmwave();
+    demorad();
+    return 0;
+}
