@@ -5,7 +5,7 @@ use std::env;
 use std::path::Path;
 
 /// The archives: `libNAME.a`.
-const LIBRARIES: [&str; 2] = ["gateway", "readings"];
+const LIBRARIES: [&str; 3] = ["gateway", "readings", "fields"];
 
 fn main() {
     println!("cargo:rustc-check-cfg=cfg(gateway_linked)");

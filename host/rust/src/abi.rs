@@ -1,4 +1,6 @@
-//! The gateway's answers in their C form (`host/include/vellanquor.h`), and what has that face.
+//! The libraries' answers in their C form (`host/include/vellanquor.h`), and what has that face.
+
+pub mod fields;
 
 use crate::judgement::{self, judge};
 use crate::numbers::millimetres;
@@ -79,7 +81,7 @@ impl From<Result<reading::Reading, Refusal>> for Reading {
     }
 }
 
-/// What can be compared: the four functions of the gateway's face.
+/// What can be compared: the functions of `libgateway.a` and `libreadings.a`.
 pub trait Subject {
     /// `vq_judge`.
     fn judge(&self, dialect: u32, bytes: &[u8], place: usize) -> Judgement;

@@ -12,9 +12,9 @@
 //! | [`demorad`] | command words, both ways | "DemoRad" |
 //! | [`listing`] | what the listing programs print | "The listing" |
 //!
-//! Beside the reader: [`generate`] makes captures from a seed, [`abi`] has the gateway's answers in their C form,
+//! Beside the reader: [`generate`] makes captures from a seed, [`abi`] has the libraries' answers in their C form,
 //! [`compare`] runs any subject with that face against the reader, and `gateway` (there only if the libraries are
-//! linked) is them as such a subject.
+//! linked) is them as such a subject; [`abi::fields`] and [`compare::fields`] are the same for fields and commands.
 
 #![deny(unsafe_code)]
 #![warn(missing_docs)]

@@ -1,6 +1,6 @@
 //! The gateway library against the reader, and the comparison against readers that are wrong on purpose.
 //!
-//! The library is compared if `VQ_LIB_DIR` names the directory that holds `libgateway.a` and `libreadings.a`. `VQ_SEED` gives another first
+//! The library is compared if `VQ_LIB_DIR` names the directory that holds the archives. `VQ_SEED` gives another first
 //! seed than the usual one.
 
 use radar_reference::abi::{Judgement, Millimetres, Reading, Reference, Subject, BAD, WAITING, WHOLE};

@@ -1,8 +1,9 @@
-//! Captures and floats from a seed: clean, noisy, cut, one byte damaged, hostile.
+//! Captures, floats and commands from a seed: clean, noisy, cut, one byte damaged, hostile.
 //!
 //! The same seed gives the same bytes on every machine, so a found difference is told by its seed. The frames are built
 //! here from the papers' tables, apart from the reader and the field writers.
 
+pub mod demorad;
 pub mod floats;
 pub mod mmwave;
 pub mod random;
@@ -117,6 +118,26 @@ fn frame_within(random: &mut Random, dialect: u32, room: usize) -> Option<Vec<u8
     } else {
         mmwave::packet(random, room)
     }
+}
+
+/// What a field reader is lent in place of this frame: mostly the frame, or it with one byte changed, cut, with bytes behind
+/// it, or a hostile piece.
+pub fn lent(random: &mut Random, dialect: u32, mut frame: Vec<u8>) -> Vec<u8> {
+    match random.below(10) {
+        0 | 1 => damage(random, &mut frame),
+        2 => {
+            let first = if random.once_in(2) { 0 } else { random.below(frame.len()) };
+            let last = random.within(first, frame.len() - 1);
+            frame = frame[first..last].to_vec();
+        }
+        3 => {
+            let count = random.within(1, 3);
+            frame.extend((0..count).map(|_| random.pick(b"\x00 !\r\n\x02")));
+        }
+        4 => frame = if dialect == SIRAD { sirad::hostile(random, 400) } else { mmwave::hostile(random, 400) },
+        _ => (),
+    }
+    frame
 }
 
 /// Puts another value in one byte, often a close one.

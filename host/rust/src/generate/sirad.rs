@@ -11,6 +11,11 @@ pub fn frame(random: &mut Random, room: usize) -> Option<Vec<u8>> {
         26..230 => random.pick(b"EEERPCUU"),
         _ => random.pick(b"EEERPCRPCUUT"),
     };
+    Some(frame_of(random, identifier, room))
+}
+
+/// A whole SiRad frame with this identifier; `room` bytes hold it.
+pub fn frame_of(random: &mut Random, identifier: u8, room: usize) -> Vec<u8> {
     let mut bytes = vec![b'!', identifier];
     match identifier {
         b'E' => hex(random, &mut bytes, 4),
@@ -37,7 +42,7 @@ pub fn frame(random: &mut Random, room: usize) -> Option<Vec<u8>> {
         }
     }
     bytes.extend_from_slice(b"\r\n");
-    Some(bytes)
+    bytes
 }
 
 /// Mostly a small size; now and then one at a limit.

@@ -1,0 +1,339 @@
+//! Fields and commands: a subject against the reader, on frames, packets and commands that are whole, damaged, cut or
+//! hostile, and on values to be written, into outputs from none to more than enough.
+//!
+//! One seed makes one frame, packet or command; the tally counts the answers by function and refusal.
+
+use std::fmt::Debug;
+
+use super::{Difference, Tally};
+use crate::abi::fields::{Command, FieldSubject, Header, StatusFrame, Target, TargetFrame, Written};
+use crate::abi::Reference;
+use crate::generate::demorad::{self, Values};
+use crate::generate::floats::float_bits;
+use crate::generate::random::Random;
+use crate::generate::{lent, mmwave, sirad};
+use crate::judgement::{MMWAVE, SIRAD};
+use crate::refusal::{Refusal, MAX_BYTES};
+
+/// A run of seeds and what it counted so far.
+struct Run<'a> {
+    name: &'static str,
+    subject: &'a dyn FieldSubject,
+    /// None for a fixed case.
+    seed: Option<u64>,
+    tally: Tally,
+}
+
+impl<'a> Run<'a> {
+    fn new(name: &'static str, subject: &'a dyn FieldSubject) -> Run<'a> {
+        Run { name, subject, seed: None, tally: Tally::default() }
+    }
+
+    /// Compares what a function answers, and counts it.
+    fn check<T: PartialEq + Debug>(
+        &mut self,
+        function: &str,
+        bytes: &[u8],
+        ask: impl Fn(&dyn FieldSubject) -> T,
+        refusal: fn(&T) -> Refusal,
+    ) -> Result<T, Difference> {
+        let (expected, answer) = (ask(&Reference), ask(self.subject));
+        if answer != expected {
+            let what = format!("{function}: expected {expected:?}, answered {answer:?}");
+            let origin = match self.seed {
+                Some(seed) => format!("seed {seed} of {}", self.name),
+                None => format!("a fixed case of {}", self.name),
+            };
+            return Err(Difference { what, origin, bytes: bytes.to_vec() });
+        }
+        self.tally.count(match refusal(&answer) {
+            0 => function.to_owned(),
+            refusal => format!("{function}, refused {refusal}"),
+        });
+        Ok(answer)
+    }
+
+    /// All four readers of SiRad fields.
+    fn check_frame(&mut self, frame: &[u8]) -> Result<(), Difference> {
+        let data = self.check("read_data", frame, |subject| subject.read_data(frame), |answer| answer.refusal)?;
+        if data.refusal == 0 {
+            self.tally.count(format!("read_data, kind {}", data.kind));
+        }
+        self.check("read_targets", frame, |subject| subject.read_targets(frame), |answer| answer.refusal)?;
+        self.check("read_status", frame, |subject| subject.read_status(frame), |answer| answer.refusal)?;
+        self.check("read_error", frame, |subject| subject.read_error(frame), |answer| answer.refusal)?;
+        Ok(())
+    }
+
+    /// The header, the records by index and by place, the points.
+    fn check_packet(&mut self, random: &mut Random, packet: &[u8]) -> Result<(), Difference> {
+        let header = self.check("header", packet, |subject| subject.header(packet), |answer| answer.refusal)?;
+        for index in (0..=header.records as usize + 1).chain([u32::MAX as usize, 1 << 32, usize::MAX]) {
+            self.check("record", packet, |subject| subject.record(packet, index), |answer| answer.refusal)?;
+        }
+        for place in places(random, packet, &header) {
+            self.check("step", packet, |subject| subject.step(packet, place), |answer| answer.refusal)?;
+        }
+        for index in point_indexes(header.objects as usize) {
+            self.check("point", packet, |subject| subject.point(packet, index), |answer| answer.refusal)?;
+        }
+        Ok(())
+    }
+
+    /// Compares what a writer answers and all of its output, of which every byte is set before.
+    fn check_writer(
+        &mut self,
+        function: &str,
+        values: &dyn Debug,
+        room: usize,
+        write: impl Fn(&dyn FieldSubject, &mut [u8]) -> Written,
+    ) -> Result<(), Difference> {
+        let ask = |subject: &dyn FieldSubject| {
+            let mut output: Vec<u8> = (0..room).map(|index| 0xA5 ^ index as u8).collect();
+            (write(subject, &mut output), output)
+        };
+        let answer = self.check(function, &[], ask, |(written, _)| written.refusal);
+        answer.map(drop).map_err(|difference| {
+            let what = format!("{} for {values:?} with room for {room}", difference.what);
+            Difference { what, ..difference }
+        })
+    }
+}
+
+/// So many SiRad slices, each with all four readers of fields.
+pub fn compare_frames(subject: &dyn FieldSubject, first_seed: u64, frames: u64) -> Result<Tally, Difference> {
+    let mut run = Run::new("compare_frames", subject);
+    for seed in first_seed..first_seed + frames {
+        run.seed = Some(seed);
+        let mut random = Random::new(seed);
+        let identifier = b"RPCTUE"[(seed % 6) as usize];
+        let room = if random.once_in(16) { 66_000 } else { 400 };
+        let frame = sirad::frame_of(&mut random, identifier, room);
+        let frame = &lent(&mut random, SIRAD, frame)[..];
+        run.check_frame(frame)?;
+    }
+    run.seed = None;
+    run.check_frame(b"")?;
+    run.check_frame(&too_long(b"!E0000\r\n"))?;
+    Ok(run.tally)
+}
+
+/// So many mmWave slices: the header, the records by index and by place, the points.
+pub fn compare_packets(subject: &dyn FieldSubject, first_seed: u64, packets: u64) -> Result<Tally, Difference> {
+    let mut run = Run::new("compare_packets", subject);
+    for seed in first_seed..first_seed + packets {
+        run.seed = Some(seed);
+        let mut random = Random::new(seed);
+        let packet = packet(&mut random);
+        let packet = lent(&mut random, MMWAVE, packet);
+        run.check_packet(&mut random, &packet)?;
+    }
+    run.seed = None;
+    run.check_packet(&mut Random::new(1), b"")?;
+    run.check_packet(&mut Random::new(1), &too_long(&mmwave::packet_of_points(&mut Random::new(1), &[[1.0; 4]])))?;
+    Ok(run.tally)
+}
+
+/// More bytes than a judgement is lent, this frame first.
+fn too_long(frame: &[u8]) -> Vec<u8> {
+    let mut bytes = frame.to_vec();
+    bytes.resize(MAX_BYTES + 1, b' ');
+    bytes
+}
+
+/// A packet of any records, or one of points with more coordinates that are refused.
+fn packet(random: &mut Random) -> Vec<u8> {
+    if random.once_in(2) {
+        let room = random.pick(&[64, 128, 256, 512, 1024, 33_000]);
+        return mmwave::packet(random, room).unwrap_or_default();
+    }
+    let count = random.below(5);
+    let points: Vec<[f32; 4]> = (0..count).map(|_| [(); 4].map(|()| coordinate(random))).collect();
+    mmwave::packet_of_points(random, &points)
+}
+
+fn coordinate(random: &mut Random) -> f32 {
+    match random.below(10) {
+        0 => f32::from_bits(random.word() | 0x7F80_0000),
+        1 => f32::from_bits(float_bits(random)),
+        2 => random.pick(&[1000.0, -1000.0, 1000.0001, -1000.0001, f32::MAX, -0.0, 0.0625]),
+        _ => random.below(24_000) as f32 / 2000.0 - 6.0,
+    }
+}
+
+/// Places where a record starts, and others.
+fn places(random: &mut Random, packet: &[u8], header: &Header) -> Vec<usize> {
+    let records = (0..header.records as usize).map(|index| Reference.record(packet, index));
+    let mut places: Vec<usize> =
+        records.flat_map(|record| [record.start - 8, record.start]).map(|place| place as usize).collect();
+    places.extend([0, 39, 40, 44, packet.len(), (1 << 32) + 40, usize::MAX]);
+    places.extend((0..3).map(|_| random.within(0, packet.len())));
+    places
+}
+
+/// The first indexes, those about the count, and some that are small again in 32 bits.
+fn point_indexes(objects: usize) -> Vec<usize> {
+    let mut indexes: Vec<usize> = (0..3.min(objects)).collect();
+    indexes.extend([
+        objects / 2,
+        objects.saturating_sub(1),
+        objects,
+        objects + 1,
+        u32::MAX as usize,
+        1 << 32,
+        usize::MAX,
+    ]);
+    indexes
+}
+
+/// So many commands as bytes.
+pub fn compare_commands(subject: &dyn FieldSubject, first_seed: u64, commands: u64) -> Result<Tally, Difference> {
+    let mut run = Run::new("compare_commands", subject);
+    for seed in first_seed..first_seed + commands {
+        run.seed = Some(seed);
+        let bytes = &demorad::bytes(&mut Random::new(seed))[..];
+        let command =
+            run.check("read_command", bytes, |subject| subject.read_command(bytes), |answer| answer.refusal)?;
+        if command.refusal == 0 {
+            run.tally.count(format!("read_command, code {:04X}", command.code));
+        }
+    }
+    Ok(run.tally)
+}
+
+/// So many commands to be written.
+pub fn compare_written_commands(
+    subject: &dyn FieldSubject,
+    first_seed: u64,
+    commands: u64,
+) -> Result<Tally, Difference> {
+    let mut run = Run::new("compare_written_commands", subject);
+    for seed in first_seed..first_seed + commands {
+        run.seed = Some(seed);
+        let mut random = Random::new(seed);
+        let Values { rd, code, count, words } = demorad::values(&mut random);
+        let command = Command { refusal: random.below(3) as u32, rd, code, count, words };
+        let room = room_for(&mut random, 4 * (count as usize + 1).min(31));
+        run.check_writer("write_command", &command, room, |subject, output| subject.write_command(output, command))?;
+    }
+    Ok(run.tally)
+}
+
+/// So many SiRad frames to be written.
+pub fn compare_written_frames(subject: &dyn FieldSubject, first_seed: u64, frames: u64) -> Result<Tally, Difference> {
+    let mut run = Run::new("compare_written_frames", subject);
+    for seed in first_seed..first_seed + frames {
+        run.seed = Some(seed);
+        let random = &mut Random::new(seed);
+        match seed % 4 {
+            0 => {
+                let kind = if random.once_in(8) {
+                    random.pick(&[0, 4, 16, 257, u32::MAX])
+                } else {
+                    random.within(1, 3) as u32
+                };
+                let content = content(random);
+                let room = room_for(random, 16 + content.len());
+                run.check_writer("write_data", &(kind, &content), room, |subject, output| {
+                    subject.write_data(output, kind, &content)
+                })?;
+            }
+            1 => {
+                let frame = target_frame(random);
+                let room = room_for(random, 230);
+                run.check_writer("write_targets", &frame, room, |subject, output| {
+                    subject.write_targets(output, frame)
+                })?;
+            }
+            2 => {
+                let status = status_frame(random);
+                let room = room_for(random, 26);
+                run.check_writer("write_status", &status, room, |subject, output| {
+                    subject.write_status(output, status)
+                })?;
+            }
+            _ => {
+                let flags = random.word() as u16;
+                let room = room_for(random, 8);
+                run.check_writer("write_error", &flags, room, |subject, output| subject.write_error(output, flags))?;
+            }
+        }
+    }
+    Ok(run.tally)
+}
+
+/// An output size: enough, exactly enough, one byte short, or none.
+fn room_for(random: &mut Random, size: usize) -> usize {
+    match random.below(6) {
+        0 => 0,
+        1 => size - 1,
+        2 => random.below(size),
+        3 => size,
+        _ => size + random.below(9),
+    }
+}
+
+/// Characters, one of them wrong now and then; a few are as many as fit a size field, or one more.
+fn content(random: &mut Random) -> Vec<u8> {
+    let size = if random.once_in(100) { random.pick(&[65_534, 65_535, 65_536]) } else { random.below(40) };
+    let mut content: Vec<u8> = (0..size).map(|_| character(random)).collect();
+    if size > 0 && random.once_in(4) {
+        let any = random.below(size);
+        let place = random.pick(&[0, any, size - 1]);
+        content[place] = no_character(random);
+    }
+    content
+}
+
+fn character(random: &mut Random) -> u8 {
+    random.within(34, 254) as u8
+}
+
+fn no_character(random: &mut Random) -> u8 {
+    random.pick(&[0, 10, 13, 32, 33, 255])
+}
+
+/// Values of a T frame, one of them without an encoding now and then.
+fn target_frame(random: &mut Random) -> TargetFrame {
+    let mut frame = TargetFrame {
+        refusal: random.below(3) as u32,
+        format: random.below(16) as u8,
+        gain: character(random),
+        ..TargetFrame::default()
+    };
+    for target in &mut frame.targets {
+        *target = Target {
+            number: random.below(16) as u8,
+            distance: random.word() as u16,
+            magnitude: character(random),
+            phase: if random.once_in(4) { random.pick(&[-32_768, -1, 0, 1, 32_767]) } else { random.word() as i16 },
+        };
+    }
+    let index = random.below(16);
+    match random.below(12) {
+        0 => frame.format = random.pick(&[16, 17, 255]),
+        1 => frame.gain = no_character(random),
+        2 => frame.targets[index].number = random.pick(&[16, 32, 255]),
+        3 => frame.targets[index].magnitude = no_character(random),
+        _ => (),
+    }
+    frame
+}
+
+/// Values of a U frame, likewise.
+fn status_frame(random: &mut Random) -> StatusFrame {
+    let mut number = || random.word() as u16;
+    let mut status = StatusFrame {
+        accuracy: number(),
+        accuracy_mm: number(),
+        max_range: number(),
+        ramp_time: number(),
+        bandwidth: number(),
+        time_difference: number(),
+        ..StatusFrame::default()
+    };
+    status.refusal = random.below(3) as u32;
+    status.format = if random.once_in(8) { random.pick(&[16, 48, 255]) } else { random.below(16) as u8 };
+    status.gain = if random.once_in(8) { no_character(random) } else { character(random) };
+    status
+}

@@ -1,0 +1,597 @@
+//! The library's readers and writers of fields and commands against the reader, and the comparison against readers that are
+//! wrong on purpose.
+//!
+//! The library is compared if `VQ_LIB_DIR` names the directory that holds `libfields.a`. `VQ_SEED` gives another first seed
+//! than the usual one.
+
+use radar_reference::abi::fields::{
+    Command, DataFrame, ErrorFrame, FieldSubject, Header, Point, Record, StatusFrame, Step, TargetFrame, Written,
+};
+use radar_reference::abi::Reference;
+use radar_reference::compare::fields::{
+    compare_commands, compare_frames, compare_packets, compare_written_commands, compare_written_frames,
+};
+use radar_reference::compare::{Difference, Tally};
+
+/// A comparison from a first seed on, over so many frames, packets or commands.
+type Comparison = fn(&dyn FieldSubject, u64, u64) -> Result<Tally, Difference>;
+
+/// A comparison, how far it goes, and the answers that must come so often at least.
+struct Run {
+    compare: Comparison,
+    count: u64,
+    seen: &'static [(&'static str, u64)],
+}
+
+/// 20,000 slices for each of six kinds.
+const FRAMES: Run = Run {
+    compare: compare_frames,
+    count: 6 * 20_000,
+    seen: &[
+        ("read_data, kind 1", 10_000),
+        ("read_data, kind 2", 10_000),
+        ("read_data, kind 3", 10_000),
+        ("read_data, refused 5", 30_000),
+        ("read_targets", 10_000),
+        ("read_targets, refused 5", 100_000),
+        ("read_status", 10_000),
+        ("read_status, refused 5", 100_000),
+        ("read_error", 10_000),
+        ("read_error, refused 5", 100_000),
+    ],
+};
+
+const PACKETS: Run = Run {
+    compare: compare_packets,
+    count: 40_000,
+    seen: &[
+        ("header", 10_000),
+        ("header, refused 5", 5000),
+        ("record", 10_000),
+        ("record, refused 5", 5000),
+        ("record, refused 6", 10_000),
+        ("step", 10_000),
+        ("step, refused 5", 5000),
+        ("step, refused 6", 10_000),
+        ("point", 1000),
+        ("point, refused 5", 5000),
+        ("point, refused 6", 5000),
+        ("point, refused 7", 5000),
+        ("point, refused 30", 1000),
+        ("point, refused 31", 1000),
+    ],
+};
+
+const COMMANDS: Run = Run {
+    compare: compare_commands,
+    count: 60_000,
+    seen: &[
+        ("read_command, code 6005", 2000),
+        ("read_command, code 6006", 2000),
+        ("read_command, code 6007", 2000),
+        ("read_command, code 6008", 2000),
+        ("read_command, code 7003", 2000),
+        ("read_command, code 900E", 2000),
+        ("read_command, code 9017", 2000),
+        ("read_command, refused 40", 1000),
+        ("read_command, refused 41", 1000),
+        ("read_command, refused 42", 1000),
+        ("read_command, refused 43", 1000),
+        ("read_command, refused 44", 1000),
+        ("read_command, refused 45", 1000),
+        ("read_command, refused 46", 1000),
+    ],
+};
+
+const WRITTEN_COMMANDS: Run = Run {
+    compare: compare_written_commands,
+    count: 60_000,
+    seen: &[
+        ("write_command", 10_000),
+        ("write_command, refused 44", 1000),
+        ("write_command, refused 45", 1000),
+        ("write_command, refused 46", 1000),
+        ("write_command, refused 51", 1000),
+    ],
+};
+
+/// 20,000 frames for each of four writers.
+const WRITTEN_FRAMES: Run = Run {
+    compare: compare_written_frames,
+    count: 4 * 20_000,
+    seen: &[
+        ("write_data", 5000),
+        ("write_data, refused 50", 1000),
+        ("write_data, refused 51", 1000),
+        ("write_data, refused 52", 20),
+        ("write_data, refused 53", 1000),
+        ("write_targets", 5000),
+        ("write_targets, refused 50", 1000),
+        ("write_targets, refused 51", 1000),
+        ("write_status", 5000),
+        ("write_status, refused 50", 1000),
+        ("write_status, refused 51", 1000),
+        ("write_error", 5000),
+        ("write_error, refused 51", 1000),
+    ],
+};
+
+fn first_seed() -> u64 {
+    std::env::var("VQ_SEED").map_or(1, |seed| seed.parse().expect("VQ_SEED is a number"))
+}
+
+fn compare(run: &Run, subject: &dyn FieldSubject) -> Result<Tally, Difference> {
+    (run.compare)(subject, first_seed(), run.count)
+}
+
+/// The subject agrees throughout, and all answers came.
+#[cfg(gateway_linked)]
+fn assert_agrees(run: &Run, subject: &dyn FieldSubject) {
+    let tally = compare(run, subject).unwrap_or_else(|difference| panic!("{difference}"));
+    println!("{tally}");
+    assert_all_seen(run, &tally);
+}
+
+fn assert_all_seen(run: &Run, tally: &Tally) {
+    for &(answer, least) in run.seen {
+        assert!(tally.of(answer) >= least, "{answer} in {tally}");
+    }
+}
+
+#[cfg(gateway_linked)]
+mod library {
+    use super::*;
+    use radar_reference::gateway::Gateway;
+
+    #[test]
+    fn frames_agree() {
+        assert_agrees(&FRAMES, &Gateway);
+    }
+
+    #[test]
+    fn packets_agree() {
+        assert_agrees(&PACKETS, &Gateway);
+    }
+
+    #[test]
+    fn commands_agree() {
+        assert_agrees(&COMMANDS, &Gateway);
+    }
+
+    #[test]
+    fn written_commands_agree() {
+        assert_agrees(&WRITTEN_COMMANDS, &Gateway);
+    }
+
+    #[test]
+    fn written_frames_agree() {
+        assert_agrees(&WRITTEN_FRAMES, &Gateway);
+    }
+}
+
+// The runs themselves, on the reader and on readers that are wrong on purpose.
+
+#[test]
+fn what_is_compared_covers_all_answers() {
+    for run in [FRAMES, PACKETS, COMMANDS, WRITTEN_COMMANDS, WRITTEN_FRAMES] {
+        assert_all_seen(&run, &compare(&run, &Reference).expect("the reader agrees with itself"));
+    }
+}
+
+/// The reader with one function replaced.
+macro_rules! wrong {
+    ($($variant:ident $function:ident ($($argument:ident: $type:ty),*) -> $answer:ty;)*) => {
+        #[derive(Clone, Copy)]
+        enum Wrong {
+            $($variant(fn($($type),*) -> $answer),)*
+        }
+
+        impl FieldSubject for Wrong {
+            $(fn $function(&self, $($argument: $type),*) -> $answer {
+                match self {
+                    Wrong::$variant(wrong) => wrong($($argument),*),
+                    _ => Reference.$function($($argument),*),
+                }
+            })*
+        }
+    };
+}
+
+wrong! {
+    Header header(packet: &[u8]) -> Header;
+    Record record(packet: &[u8], index: usize) -> Record;
+    Step step(packet: &[u8], place: usize) -> Step;
+    Point point(packet: &[u8], index: usize) -> Point;
+    ReadCommand read_command(bytes: &[u8]) -> Command;
+    WriteCommand write_command(output: &mut [u8], command: Command) -> Written;
+    ReadData read_data(frame: &[u8]) -> DataFrame;
+    ReadTargets read_targets(frame: &[u8]) -> TargetFrame;
+    ReadStatus read_status(frame: &[u8]) -> StatusFrame;
+    ReadError read_error(frame: &[u8]) -> ErrorFrame;
+    WriteData write_data(output: &mut [u8], kind: u32, content: &[u8]) -> Written;
+    WriteTargets write_targets(output: &mut [u8], frame: TargetFrame) -> Written;
+    WriteStatus write_status(output: &mut [u8], status: StatusFrame) -> Written;
+    WriteError write_error(output: &mut [u8], flags: u16) -> Written;
+}
+
+fn word(bytes: &[u8], place: usize) -> Option<u32> {
+    Some(u32::from_le_bytes(bytes.get(place..place + 4)?.try_into().ok()?))
+}
+
+/// The bytes with another word at a place; the same where there is none.
+fn word_with(bytes: &[u8], place: usize, change: fn(u32) -> u32) -> Vec<u8> {
+    let mut bytes = bytes.to_vec();
+    if let Some(word) = word(&bytes, place) {
+        bytes[place..place + 4].copy_from_slice(&change(word).to_le_bytes());
+    }
+    bytes
+}
+
+/// Where the records of a type start.
+fn starts_of(packet: &[u8], kind: u32) -> Vec<usize> {
+    let records = (0..Reference.header(packet).records as usize).map(|index| Reference.record(packet, index));
+    records.filter(|record| record.kind == kind).map(|record| record.start as usize - 8).collect()
+}
+
+fn refused(refusal: u32) -> Written {
+    Written { refusal, size: 0 }
+}
+
+const WRONG_PACKETS: &[(&str, Wrong)] = &[
+    ("every packet is refused", Wrong::Header(|_| Header { refusal: 5, ..Header::default() })),
+    (
+        "time and frame number change places",
+        Wrong::Header(|p| {
+            let right = Reference.header(p);
+            Header { time: right.frame, frame: right.time, ..right }
+        }),
+    ),
+    (
+        "bytes behind a packet are ignored",
+        Wrong::Header(|p| Reference.header(p.get(..word(p, 12).unwrap_or(0) as usize).unwrap_or(p))),
+    ),
+    (
+        "a payload starts at its record",
+        Wrong::Record(|p, index| {
+            let right = Reference.record(p, index);
+            Record { start: right.start.saturating_sub(8), ..right }
+        }),
+    ),
+    ("a record's index has 32 bits", Wrong::Record(|p, index| Reference.record(p, index as u32 as usize))),
+    ("records count from 1", Wrong::Record(|p, index| Reference.record(p, index.saturating_sub(1)))),
+    (
+        "6 goes before 5",
+        Wrong::Record(|p, index| match Reference.record(p, index) {
+            right if right.refusal == 5 && index > 32 => Record { refusal: 6, ..right },
+            right => right,
+        }),
+    ),
+    ("a place has 32 bits", Wrong::Step(|p, place| Reference.step(p, place as u32 as usize))),
+    (
+        "a refused step goes back to the start",
+        Wrong::Step(|p, place| match Reference.step(p, place) {
+            right if right.refusal != 0 => Step { next: 40, ..right },
+            right => right,
+        }),
+    ),
+    (
+        "a step is over the payload only",
+        Wrong::Step(|p, place| {
+            let right = Reference.step(p, place);
+            Step { next: if right.refusal == 0 { right.start + right.length - 8 } else { right.next }, ..right }
+        }),
+    ),
+    ("a step from anywhere gives the first record", Wrong::Step(|p, _| Reference.step(p, 40))),
+    ("a point's index has 32 bits", Wrong::Point(|p, index| Reference.point(p, index as u32 as usize))),
+    (
+        "points come from the last record of type 1",
+        Wrong::Point(|p, index| {
+            let starts = starts_of(p, 1);
+            let others = starts.split_last().map_or(&[][..], |(_, others)| others);
+            let changed = others.iter().fold(p.to_vec(), |bytes, &start| word_with(&bytes, start, |_| 10));
+            Reference.point(&changed, index)
+        }),
+    ),
+    (
+        "6 goes before 7",
+        Wrong::Point(|p, index| match Reference.point(p, index) {
+            right if right.refusal == 7 && index >= Reference.header(p).objects as usize => {
+                Point { refusal: 6, ..right }
+            }
+            right => right,
+        }),
+    ),
+    (
+        "30 goes before 31",
+        Wrong::Point(|p, index| match (Reference.point(p, index), starts_of(p, 1).first()) {
+            (right, Some(&start)) if right.refusal == 31 => {
+                let coordinates = [8, 12, 16].map(|offset| word(p, start + offset + 16 * index).unwrap_or(0));
+                let none = coordinates.iter().any(|bits| bits & 0x7F80_0000 == 0x7F80_0000);
+                Point { refusal: if none { 30 } else { 31 }, ..right }
+            }
+            (right, _) => right,
+        }),
+    ),
+    (
+        "Doppler is judged too",
+        Wrong::Point(|p, index| match Reference.point(p, index) {
+            right if f32::from_bits(right.doppler).is_nan() => Point { refusal: 30, ..Point::default() },
+            right => right,
+        }),
+    ),
+    (
+        "X and Z change places",
+        Wrong::Point(|p, index| {
+            let right = Reference.point(p, index);
+            Point { x: right.z, z: right.x, ..right }
+        }),
+    ),
+];
+
+const WRONG_COMMANDS: &[(&str, Wrong)] = &[
+    ("rest bits are fine", Wrong::ReadCommand(|b| Reference.read_command(&word_with(b, 0, |w| w & 0x801F_FFFF)))),
+    ("bit 30 is fine", Wrong::ReadCommand(|b| Reference.read_command(&word_with(b, 0, |w| w & !(1 << 30))))),
+    (
+        "43 goes before 42",
+        Wrong::ReadCommand(|b| match Reference.read_command(b) {
+            right if right.refusal == 42 => Command { refusal: 43, ..right },
+            right => right,
+        }),
+    ),
+    ("RD is lost", Wrong::ReadCommand(|b| Command { rd: false, ..Reference.read_command(b) })),
+    (
+        "the header counts as a payload word",
+        Wrong::ReadCommand(|b| {
+            let right = Reference.read_command(b);
+            Command { count: if right.refusal == 0 { right.count + 1 } else { 0 }, ..right }
+        }),
+    ),
+    (
+        "words have their most significant byte first",
+        Wrong::ReadCommand(|b| {
+            let right = Reference.read_command(b);
+            Command { words: right.words.map(u32::swap_bytes), ..right }
+        }),
+    ),
+    (
+        "a selection of 5 is fine",
+        Wrong::ReadCommand(|b| match (word(b, 0).unwrap_or(0) & 0xFFFF, word(b, 4)) {
+            (0x6006, Some(5)) => Reference.read_command(&word_with(b, 4, |_| 4)),
+            _ => Reference.read_command(b),
+        }),
+    ),
+    (
+        "the first word of 9017 selects",
+        Wrong::ReadCommand(|b| match (Reference.read_command(b), word(b, 4)) {
+            (right, Some(4..)) if right.code == 0x9017 => Command { refusal: 46, ..Command::default() },
+            (right, _) => right,
+        }),
+    ),
+    (
+        "46 goes before 45",
+        Wrong::ReadCommand(|b| match (Reference.read_command(b), word(b, 0).unwrap_or(0) & 0xFFFF, word(b, 4)) {
+            (right, 0x6006, Some(5..)) if right.refusal == 45 => Command { refusal: 46, ..right },
+            (right, ..) => right,
+        }),
+    ),
+    (
+        "three bytes are a wrong byte count",
+        Wrong::ReadCommand(|b| match Reference.read_command(b) {
+            right if right.refusal == 40 => Command { refusal: 43, ..right },
+            right => right,
+        }),
+    ),
+];
+
+const WRONG_WRITTEN_COMMANDS: &[(&str, Wrong)] = &[
+    (
+        "a byte behind the command is changed",
+        Wrong::WriteCommand(|output, command| {
+            let right = Reference.write_command(output, command);
+            if let Some(byte) = output.get_mut(right.size as usize).filter(|_| right.refusal == 0) {
+                *byte = 0;
+            }
+            right
+        }),
+    ),
+    (
+        "an output too short is written in part",
+        Wrong::WriteCommand(|output, command| {
+            let right = Reference.write_command(output, command);
+            if right.refusal == 51 {
+                output.fill(0);
+            }
+            right
+        }),
+    ),
+    (
+        "51 goes before 46",
+        Wrong::WriteCommand(|output, command| match Reference.write_command(output, command) {
+            right if right.refusal == 46 && output.len() < 4 * (command.count as usize + 1) => refused(51),
+            right => right,
+        }),
+    ),
+    (
+        "a code's upper half is ignored",
+        Wrong::WriteCommand(|output, command| {
+            Reference.write_command(output, Command { code: command.code & 0xFFFF, ..command })
+        }),
+    ),
+    (
+        "a refused command is not written",
+        Wrong::WriteCommand(|output, command| match command.refusal {
+            0 => Reference.write_command(output, command),
+            refusal => refused(refusal),
+        }),
+    ),
+];
+
+const WRONG_FRAMES: &[(&str, Wrong)] = &[
+    (
+        "P and C are one kind",
+        Wrong::ReadData(|f| {
+            let right = Reference.read_data(f);
+            DataFrame { kind: right.kind.min(2), ..right }
+        }),
+    ),
+    (
+        "data start behind the size",
+        Wrong::ReadData(|f| {
+            let right = Reference.read_data(f);
+            DataFrame { start: right.start.min(6), ..right }
+        }),
+    ),
+    (
+        "the last block is lost",
+        Wrong::ReadTargets(|f| {
+            let mut right = Reference.read_targets(f);
+            right.targets[15] = Default::default();
+            right
+        }),
+    ),
+    (
+        "negative phases are one too small",
+        Wrong::ReadTargets(|f| {
+            let mut right = Reference.read_targets(f);
+            right.targets[3].phase -= i16::from(right.targets[3].phase < -1);
+            right
+        }),
+    ),
+    (
+        "blocks are numbered by their place",
+        Wrong::ReadTargets(|f| {
+            let mut right = Reference.read_targets(f);
+            if right.refusal == 0 {
+                (0..).zip(&mut right.targets).for_each(|(number, target)| target.number = number);
+            }
+            right
+        }),
+    ),
+    (
+        "the accuracy is cut off to millimetres",
+        Wrong::ReadStatus(|f| {
+            let right = Reference.read_status(f);
+            StatusFrame { accuracy_mm: right.accuracy / 10, ..right }
+        }),
+    ),
+    (
+        "max range and ramp time change places",
+        Wrong::ReadStatus(|f| {
+            let right = Reference.read_status(f);
+            StatusFrame { max_range: right.ramp_time, ramp_time: right.max_range, ..right }
+        }),
+    ),
+    ("bytes behind a frame are ignored", Wrong::ReadError(|f| Reference.read_error(&f[..f.len().min(8)]))),
+    (
+        "a frame of another kind has no flags",
+        Wrong::ReadError(|f| match Reference.read_error(f) {
+            right if Reference.read_status(f).refusal == 0 => ErrorFrame { refusal: 0, ..right },
+            right => right,
+        }),
+    ),
+];
+
+const WRONG_WRITTEN_FRAMES: &[(&str, Wrong)] = &[
+    (
+        "254 is no character",
+        Wrong::WriteData(|output, kind, content| match content.contains(&254) {
+            true if Reference.write_data(output, kind, content).refusal == 0 => refused(50),
+            _ => Reference.write_data(output, kind, content),
+        }),
+    ),
+    (
+        "255 is a character",
+        Wrong::WriteData(|output, kind, content| {
+            let content: Vec<u8> = content.iter().map(|&byte| byte.min(254)).collect();
+            Reference.write_data(output, kind, &content)
+        }),
+    ),
+    (
+        "50 goes before 52",
+        Wrong::WriteData(|output, kind, content| match Reference.write_data(output, kind, content) {
+            right if right.refusal == 52 && content.iter().any(|byte| !(34..=254).contains(byte)) => refused(50),
+            right => right,
+        }),
+    ),
+    (
+        "52 goes before 53",
+        Wrong::WriteData(|output, kind, content| match Reference.write_data(output, kind, content) {
+            right if right.refusal == 53 && content.len() > 65_535 => refused(52),
+            right => right,
+        }),
+    ),
+    (
+        "51 goes before 50",
+        Wrong::WriteTargets(|output, frame| match Reference.write_targets(output, frame) {
+            right if right.refusal == 50 && output.len() < 230 => refused(51),
+            right => right,
+        }),
+    ),
+    (
+        "reserved bytes stay as they were",
+        Wrong::WriteTargets(|output, frame| {
+            let before = output.get(14..18).map(<[u8]>::to_vec);
+            let right = Reference.write_targets(output, frame);
+            if let (0, Some(before)) = (right.refusal, before) {
+                output[14..18].copy_from_slice(&before);
+            }
+            right
+        }),
+    ),
+    (
+        "a number of 16 is written as 0",
+        Wrong::WriteTargets(|output, mut frame| {
+            frame.targets.iter_mut().for_each(|target| target.number &= 15);
+            Reference.write_targets(output, frame)
+        }),
+    ),
+    (
+        "the accuracy is written in millimetres",
+        Wrong::WriteStatus(|output, status| {
+            Reference.write_status(output, StatusFrame { accuracy: status.accuracy_mm, ..status })
+        }),
+    ),
+    (
+        "a format of two digits is fine",
+        Wrong::WriteStatus(|output, status| {
+            Reference.write_status(output, StatusFrame { format: status.format % 16, ..status })
+        }),
+    ),
+    (
+        "hex digits are lower case",
+        Wrong::WriteError(|output, flags| {
+            let right = Reference.write_error(output, flags);
+            if right.refusal == 0 {
+                output[2..6].make_ascii_lowercase();
+            }
+            right
+        }),
+    ),
+    (
+        "a byte behind the frame is written",
+        Wrong::WriteError(|output, flags| {
+            let right = Reference.write_error(output, flags);
+            if let Some(byte) = output.get_mut(8) {
+                *byte = 0;
+            }
+            right
+        }),
+    ),
+];
+
+#[test]
+fn every_wrong_reader_is_found() {
+    let lists = [
+        (PACKETS, WRONG_PACKETS),
+        (COMMANDS, WRONG_COMMANDS),
+        (WRITTEN_COMMANDS, WRONG_WRITTEN_COMMANDS),
+        (FRAMES, WRONG_FRAMES),
+        (WRITTEN_FRAMES, WRONG_WRITTEN_FRAMES),
+    ];
+    for (run, readers) in lists {
+        for (what, wrong) in readers {
+            let found = compare(&run, wrong).expect_err(what);
+            assert!(found.to_string().contains("seed"), "{what}: {found}");
+        }
+    }
+}
