@@ -7,8 +7,8 @@
  * and a third wire, DemoRad's command words.
  *
  * Each function tests what it is handed and answers bad input with a refusal number; nothing that the bytes hold stops or
- * harms it. Look at `refusal` first: it is 0 if there is an answer, and on a refusal every other number is 0 and nothing
- * is written.
+ * harms it. Look at `refusal` first: it is 0 if there is an answer, and on a refusal every other number is 0 (but for
+ * `next` of vq_step, where the place stays) and nothing is written.
  *
  * What the caller sees to: `bytes` (`frame`, `packet`, `content`) points to `count` readable bytes, `table` to `numbers`
  * writable 32-bit numbers and `output` to `room` writable bytes that lie apart from them; none is a null pointer, also
