@@ -1,9 +1,12 @@
 //! What libFuzzer calls: the gateway library against the independent reader on one capture.
 //!
 //! Byte 0 of an input chooses the dialect, byte 1 the place of a split; the capture is the rest. Compared are the
-//! judgement at every place, both readings with tables of eight sizes, demand 3 at the split, and each four bytes as the
-//! bits of a coordinate. A difference is printed and ends the run, and libFuzzer keeps the input.
+//! judgement at every place, both readings with tables of eight sizes, demand 3 at the split, each four bytes as the bits
+//! of a coordinate, and the field readers on every frame and on the capture. A difference is printed and ends the run, and
+//! libFuzzer keeps the input.
 
+#[cfg(not(feature = "wrong"))]
+use radar_reference::compare::fields::check_fields;
 use radar_reference::compare::{check_capture, check_millimetres, check_split};
 
 #[cfg(not(feature = "wrong"))]
@@ -34,6 +37,8 @@ fn compare(dialect: u32, part: usize, capture: &[u8]) -> Result<(), String> {
         check_millimetres(&Tried, u32::from_le_bytes([float[0], float[1], float[2], float[3]]))?;
     }
     check_capture(&Tried, dialect, capture)?;
+    #[cfg(not(feature = "wrong"))]
+    check_fields(&Tried, dialect, capture).map_err(|difference| difference.what)?;
     // Last, because it ends with judgements: libFuzzer tries the operands of the last comparisons.
     check_split(&Tried, dialect, capture, capture.len() * part / 255)
 }

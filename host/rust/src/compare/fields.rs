@@ -7,12 +7,13 @@ use std::fmt::Debug;
 
 use super::{Difference, Tally};
 use crate::abi::fields::{Command, FieldSubject, Header, StatusFrame, Target, TargetFrame, Written};
-use crate::abi::Reference;
+use crate::abi::{Reference, Subject};
 use crate::generate::demorad::{self, Values};
 use crate::generate::floats::float_bits;
 use crate::generate::random::Random;
 use crate::generate::{lent, mmwave, sirad};
 use crate::judgement::{MMWAVE, SIRAD};
+use crate::reading::ROW;
 use crate::refusal::{Refusal, MAX_BYTES};
 
 /// A run of seeds and what it counted so far.
@@ -98,6 +99,22 @@ impl<'a> Run<'a> {
             Difference { what, ..difference }
         })
     }
+}
+
+/// Every field reader on every frame of a capture, on the capture itself and on it without its last byte; the capture as a
+/// command: what a fuzzer calls.
+pub fn check_fields(subject: &dyn FieldSubject, dialect: u32, capture: &[u8]) -> Result<(), Difference> {
+    let mut run = Run::new("check_fields", subject);
+    let mut table = vec![0; ROW * (capture.len() / 8 + 1)];
+    let reading = Reference.closed_reading(dialect, capture, &mut table);
+    let frames = table.chunks_exact(ROW).take(reading.rows as usize);
+    let frames = frames.map(|row| &capture[row[0] as usize..][..row[1] as usize]);
+    let cut = &capture[..capture.len().saturating_sub(1)];
+    for frame in frames.chain([capture, cut]) {
+        run.check_frame(frame)?;
+        run.check_packet(&mut Random::new(1), frame)?;
+    }
+    run.check("read_command", capture, |subject| subject.read_command(capture), |answer| answer.refusal).map(drop)
 }
 
 /// So many SiRad slices, each with all four readers of fields.
