@@ -1,4 +1,4 @@
--- Hex numbers of any width: both directions, lengths and bounds. Every test on a byte goes through one view of it, `Hexness`.
+-- Hex numbers of any width: both directions, lengths and bounds. But for the laws of `digit_of`, every test on a byte goes through one view of it, `Hexness`.
 use mathlib.Core.Path.{_≡_, refl, sym, ap, _∙_}
 use mathlib.Core.Bool.{Bool, true, false}
 use mathlib.Core.List.{List, [], _∷_, _++_, append-nil}
@@ -6,11 +6,35 @@ use Prim.Native.Nat.{ℕ, zero, suc, _+_, _-_, _*_, _/_, _%_, _^_, _<_, _≤_}
 use native.Mathlib.Nat.{pow-succ', pow-le-pow-right, lt-of-lt-of-le, mul-le-mul-right, mul-assoc, add-zero, zero-add, one-mul}
 use native.Mathlib.Decide.{decLe}
 use native.Mathlib.Omega.{arith}
-use borrow.Author.Tests.{le-leb, lt-leb}
+use borrow.Author.Tests.{le-leb, lt-leb, leb-true}
+use lib.Dec.{leb}
 use lib.ListN.{length, take, drop, length-take, length-append}
 use lib.Seq.{append-snoc}
 use Rattle.digits.specs.Bytes.{isHex, within, Below, Bytes}
 use Rattle.digits.specs.Hex.{digit, glyph, hexFrom, hexValue, hexDigits, hexAt, AllHex}
+use Rattle.digits.proofs.Choices.{and-left}
+
+-- -- A digit by the tests of the code
+
+-- the lower bound of a range that holds
+pub within-low : (low high b : ℕ) → within low high b ≡ true → low ≤ b
+within-low low high b h = leb-true low b (and-left (leb low b) (leb b high) h)
+
+module _ (b : ℕ) where
+  -- 0 to 9
+  pub digit-figure : within 48 57 b ≡ true → b - 48 ≡ digit b
+  unfolding digit
+  digit-figure h = rw h
+
+  -- A to F
+  pub digit-letter : within 48 57 b ≡ false → within 65 70 b ≡ true → b - 55 ≡ digit b
+  unfolding digit
+  digit-letter h l = rw (h, l)
+
+  -- no digit
+  pub digit-none : within 48 57 b ≡ false → within 65 70 b ≡ false → 0 ≡ digit b
+  unfolding digit
+  digit-none h l = rw (h, l)
 
 -- -- A byte as a digit
 

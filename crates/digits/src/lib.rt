@@ -1,12 +1,19 @@
-// Numbers as bytes: hex and little-endian, both ways, and stores into a lent buffer.
+// Classes of bytes; numbers as bytes, hex and little-endian, both ways; stores into a lent buffer.
 
 ghost use mathlib.Core.Path.{_≡_};
 ghost use mathlib.Core.List.{[], _∷_};
+ghost use Rattle.digits.specs.Bytes.{within, isCharacter};
+ghost use Rattle.digits.specs.Hex.{digit};
 ghost use Rattle.digits.specs.LittleEndian.{fromLittle, wordAt};
 ghost use Rattle.digits.specs.Stores.{wordStored};
 
 // The refusal of every writer whose output is too short (paper 01, "Refusal numbers").
 pub const OUTPUT_TOO_SHORT: u32 = 51;
+
+// A character is a byte from the first to the last, both included (document 000).
+const FIRST_CHARACTER: u8 = 34;
+
+const LAST_CHARACTER: u8 = 254;
 
 // What a writer answers: the refusal number (0: none) and the bytes produced.
 #[repr(C)]
@@ -14,6 +21,36 @@ pub struct Written {
     pub refusal: u32,
     pub size: usize,
 }
+
+// -- Single bytes
+
+fn between(low: u8, high: u8, b: u8) -> bool
+    ensures { λ r. ⌜ r ≡ within low high b ⌝ }
+{
+    low <= b && b <= high
+}
+
+// Whether a byte is a character: 34 and 254 are, 33 (`!`) and 255 are not.
+pub fn is_character(b: u8) -> bool
+    ensures { λ r. ⌜ r ≡ isCharacter b ⌝ }
+{
+    between(FIRST_CHARACTER, LAST_CHARACTER, b)
+}
+
+// What an upper-case hex digit stands for: 70 (`F`) is 15; 0 for a byte that is no digit.
+pub fn digit_of(b: u8) -> u16
+    ensures { λ r. ⌜ r ≡ digit b ⌝ }
+{
+    if between(b'0', b'9', b) {
+        return b as u16 - 48;
+    }
+    if between(b'A', b'F', b) {
+        return b as u16 - 55;
+    }
+    0
+}
+
+// -- 32-bit numbers
 
 // The number of four bytes, least significant first.
 pub fn join(a: u8, b: u8, c: u8, d: u8) -> u32

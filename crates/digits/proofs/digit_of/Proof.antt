@@ -1,0 +1,43 @@
+-- `digits::digit_of` meets its contract. Each return is one law: a figure, a letter, no digit.
+use mathlib.Core.Path.{sym, _∙_}
+use Prim.Native.Nat.{_≤_}
+use native.Mathlib.Omega.{arith}
+use Rattle.digits.proofs.HexLaws.{within-low, digit-figure, digit-letter, digit-none}
+use borrow.Author.Needs.{needs}
+use Rattle.digits.proofs.digit_of.Statement.{statement}
+use Rattle.digits.proofs.digit_of.Tie as tie
+
+between-requires : tie.Need-between-requires
+between-requires c κs = search needs
+
+sub-result : tie.Need-sub-result
+sub-result c = within-low _ _ _ (sym (c .before .between .ensures) ∙ c .if1 .taken)
+
+returns : tie.Need-returns
+returns c = digit-figure (c .before .before .args .b) (sym (c .before .between .ensures) ∙ c .if1 .taken)
+
+between-requires-2 : tie.Need-between-requires-2
+between-requires-2 c κs = search needs
+
+sub-result-2 : tie.Need-sub-result-2
+sub-result-2 c =
+    let h : 65 ≤ c .before .before .before .before .args .b = within-low 65 _ _ (sym (c .before .between2 .ensures) ∙ c .if2 .taken) in
+    omega arith
+
+returns-2 : tie.Need-returns-2
+returns-2 c = digit-letter (c .before .before .before .before .args .b) (sym (c .before .before .before .between .ensures) ∙ c .before .before .if1 .left) (sym (c .before .between2 .ensures) ∙ c .if2 .taken)
+
+returns-3 : tie.Need-returns-3
+returns-3 c = digit-none (c .before .before .before .before .args .b) (sym (c .before .before .before .between .ensures) ∙ c .before .before .if1 .left) (sym (c .before .between2 .ensures) ∙ c .if2 .left)
+
+pub digit-of-spec : {M : Type 1} → statement M
+digit-of-spec =
+    tie.close
+    (tie.spec
+    between-requires
+    sub-result
+    returns
+    between-requires-2
+    sub-result-2
+    returns-2
+    returns-3)
