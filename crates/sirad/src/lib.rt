@@ -21,11 +21,6 @@ const CR: u8 = 13;
 
 const LF: u8 = 10;
 
-// A character is a byte from the first to the last (document 000).
-const FIRST_CHARACTER: u8 = 34;
-
-const LAST_CHARACTER: u8 = 254;
-
 // The reasons of this wire (paper 01, "Judging a place").
 pub const NO_START: u32 = 10;
 
@@ -116,7 +111,7 @@ fn is_of(c: Class, b: u8) -> bool
 {
     match c {
         Class::Hex => is_hex(b),
-        Class::Char => between(FIRST_CHARACTER, LAST_CHARACTER, b),
+        Class::Char => digits::is_character(b),
         Class::Cr => b == CR,
         Class::Lf => b == LF,
     }
@@ -133,7 +128,7 @@ fn reason_of(c: Class) -> u32
     }
 }
 
-// What a hex digit stands for.
+// What a hex digit stands for: `digits::digit_of` for a byte that is known to be one, with one test instead of four.
 fn digit_of(b: u8) -> u32
     requires { ⌜ isHex b ≡ true ⌝ }
     ensures { λ r. ⌜ r ≡ digit b ⌝ }

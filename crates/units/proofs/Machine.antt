@@ -6,7 +6,7 @@ use native.Mathlib.Nat.{mul-comm, mul-assoc, mul-add, add-mul, suc-mul, mul-left
 use native.Mathlib.Omega.{arith}
 use lib.Dec.{leb, ltb, lit<}
 use lib.Pow.{pow-add, pow-pos}
-use borrow.Author.Tests.{ltb-true, ltb-false, leb-true, lt-ltb, le-ltb, le-leb, lt-leb}
+use borrow.Author.Tests.{ltb-true, ltb-false, leb-true, lt-ltb, le-ltb, lt-leb}
 use lib.IntN.{pos, negℤ, _-ℤ_, +ℤ-idl}
 use mir.Syntax.{w32}
 use mir.Val.{SFits, toZ, ofZ, boolByte}
@@ -99,14 +99,6 @@ difference c k =
     (λ t. let h : suc k ≤ c = ltb-false c (suc k) t in
     let e : distance c (suc k) ≡ c - suc k = omega arith in
     rw (t, e) refl)
-
--- from the first character on, the last one decides
-pub from-first : (b : ℕ) → 34 ≤ b → leb b 254 ≡ isCharacter b
-from-first b h = simp (le-leb 34 b h)
-
--- below the first character there is none
-pub before-first : (b : ℕ) → b < 34 → leb 34 b ≡ isCharacter b
-before-first b h = simp (lt-leb 34 b h)
 
 -- the dB of a character
 pub decibels-value : (c a : ℕ) → isCharacter c ≡ true → a ≡ distance c 174 → value (signed (ltb c 174) a) ≡ decibels c

@@ -4,7 +4,6 @@ ghost use Prim.Native.Nat.{_*_, _^_, _<_, _≤_};
 ghost use mathlib.Core.Bool.{cond};
 ghost use mathlib.Core.Path.{_≡_};
 ghost use lib.Dec.{leb, ltb};
-ghost use Rattle.digits.specs.Bytes.{isCharacter};
 ghost use Rattle.units.specs.Rounding.{distance, signed, nearest};
 ghost use Rattle.units.specs.Units.{value, refused, decibels, centidegrees, accuracyMillimetres, millimetres};
 
@@ -14,11 +13,6 @@ const NOT_FINITE: u32 = 30;
 const TOO_FAR: u32 = 31;
 
 const NO_ENCODING: u32 = 50;
-
-// A character is a byte from the first to the last, both included.
-const FIRST_CHARACTER: u8 = 34;
-
-const LAST_CHARACTER: u8 = 254;
 
 // The characters that mean 0 dB and a phase of 0.
 const ZERO_DECIBELS: u32 = 174;
@@ -113,17 +107,11 @@ fn rounded_shift(n: u64, k: u32) -> u64
     ((n >> (k - 1)) + 1) / 2
 }
 
-fn is_character(byte: u8) -> bool
-    ensures { λ r. ⌜ r ≡ isCharacter byte ⌝ }
-{
-    FIRST_CHARACTER <= byte && byte <= LAST_CHARACTER
-}
-
 // What a character means in dB: 90 (`Z`) is -84, and 33 is refused with 50.
 pub fn decibels_of(character: u8) -> Quantity
     ensures { λ r. ⌜ r ≡ decibels character ⌝ }
 {
-    if is_character(character) {
+    if digits::is_character(character) {
         let c = character as u32;
         return signed_quantity(c < ZERO_DECIBELS, apart(c, ZERO_DECIBELS));
     }
@@ -134,7 +122,7 @@ pub fn decibels_of(character: u8) -> Quantity
 pub fn centidegrees_of(character: u8) -> Quantity
     ensures { λ r. ⌜ r ≡ centidegrees character ⌝ }
 {
-    if is_character(character) {
+    if digits::is_character(character) {
         let c = character as u32;
         let steps = apart(c, ZERO_PHASE);
         let n = PHASE_STEP * steps;

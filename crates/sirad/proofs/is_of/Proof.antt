@@ -12,8 +12,8 @@ is-hex-requires c κs = search needs
 enum-told-2 : tie.Need-enum-told-2
 enum-told-2 c = search needs
 
-between-requires : tie.Need-between-requires
-between-requires c κs = search needs
+is-character-requires : tie.Need-is-character-requires
+is-character-requires c κs = search needs
 
 enum-told-3 : tie.Need-enum-told-3
 enum-told-3 c = search needs
@@ -25,7 +25,7 @@ returns : tie.Need-returns
 returns c = rw (c .before .enum-told .given .1) (c .is-hex .ensures)
 
 returns-2 : tie.Need-returns-2
-returns-2 c = rw (c .before .enum-told2 .given .1) (c .between .ensures)
+returns-2 c = rw (c .before .enum-told2 .given .1) (c .is-character .ensures)
 
 returns-3 : tie.Need-returns-3
 returns-3 c = rw (c .enum-told3 .given .1)
@@ -40,7 +40,7 @@ is-of-spec =
     enum-told
     is-hex-requires
     enum-told-2
-    between-requires
+    is-character-requires
     enum-told-3
     enum-told-4
     returns

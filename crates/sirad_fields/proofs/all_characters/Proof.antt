@@ -19,11 +19,11 @@ abbrev μ-loop : tie.MeasureT-loop
 loop-holds : tie.Need-loop-holds Inv-loop μ-loop
 loop-holds c = let a = c .before .args in (omega arith, rw (sub-zero (length (a .content .now))))
 
-shared-slice-read-between : tie.Need-shared-slice-read-between Inv-loop μ-loop
-shared-slice-read-between c = omega arith
+shared-slice-read-is-character : tie.Need-shared-slice-read-is-character Inv-loop μ-loop
+shared-slice-read-is-character c = omega arith
 
-between-requires : tie.Need-between-requires Inv-loop μ-loop
-between-requires c κs = tt
+is-character-requires : tie.Need-is-character-requires Inv-loop μ-loop
+is-character-requires c κs = tt
 
 add-i : tie.Need-add-i Inv-loop μ-loop
 add-i c = omega arith
@@ -32,10 +32,10 @@ loop-less : tie.Need-loop-less Inv-loop μ-loop
 loop-less c = omega arith
 
 loop-again : tie.Need-loop-again Inv-loop μ-loop
-loop-again c = let l = c .before .before .before .before .loop in let a = c .before .before .before .before .before .before .args in (omega arith, sym (characters-next (a .content .now) (l .i) (c .before .before .before .loop-test .taken) (c .before .between .ensures) (c .if1 .taken)) ∙ l .inv .1)
+loop-again c = let l = c .before .before .before .before .loop in let a = c .before .before .before .before .before .before .args in (omega arith, sym (characters-next (a .content .now) (l .i) (c .before .before .before .loop-test .taken) (c .before .is-character .ensures) (c .if1 .taken)) ∙ l .inv .1)
 
 returns : tie.Need-returns Inv-loop μ-loop
-returns c = let l = c .before .before .before .before .loop in let a = c .before .before .before .before .before .before .args in sym (characters-fail (a .content .now) (l .i) (c .before .before .before .loop-test .taken) (c .before .between .ensures) (c .if1 .left)) ∙ l .inv .1
+returns c = let l = c .before .before .before .before .loop in let a = c .before .before .before .before .before .before .args in sym (characters-fail (a .content .now) (l .i) (c .before .before .before .loop-test .taken) (c .before .is-character .ensures) (c .if1 .left)) ∙ l .inv .1
 
 returns-2 : tie.Need-returns-2 Inv-loop μ-loop
 returns-2 c = let l = c .before .loop in let a = c .before .before .before .args in sym (characters-over (a .content .now) (l .i) (c .loop-test .left)) ∙ l .inv .1
@@ -47,8 +47,8 @@ all-characters-spec =
     Inv-loop
     μ-loop
     loop-holds
-    shared-slice-read-between
-    between-requires
+    shared-slice-read-is-character
+    is-character-requires
     add-i
     loop-less
     loop-again
