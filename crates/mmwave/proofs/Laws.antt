@@ -111,9 +111,12 @@ entry-inverse P n k room at bs m e w = go (seq-inverse _ _ at bs m e w)
         × (judgeAt (four 24 (lengthOk P (P .rule u n) k room) >>= (λ m. free m >>= (λ _. whole m))) d bs ≡ Whole m e) → EntryRead P n k room at bs m e
     go g = let f = four-inverse 23 (typeOk P n k room) at bs (g .0) (g .1) (g .2) in second (g .0) (g .1) (f .0) (f .1) (f .2) (seq-inverse _ _ (g .1) bs m e (g .3))
 
+-- a payload length that passed lies in the room
+pub passed-fits : (P : Profile) → Sound P → (n : ℕ) (rule : Rule) (k room m : ℕ) → (k ≡ 0 → ⊥) → lengthOk P rule k room m ≡ true → m ≤ room
+unfolding lengthOk
+passed-fits P S n rule zero room m h a = absurd (h refl)
+passed-fits P S n rule (suc k) room m h a = S .length-reads n k room m .0 (and-both (legal rule m) (P .fits (suc k) room m) a .1) .0
+
 -- a whole record's payload lies in the room
 pub entry-fits : (P : Profile) → Sound P → (n k room at : ℕ) (bs : List ℕ) (m e : ℕ) {r : Judgement} → (k ≡ 0 → ⊥) → r ≡ judgeAt (entry P n k room) at bs → r ≡ Whole m e → m ≤ room
-unfolding lengthOk
-entry-fits P S n zero room at bs m e h a b = absurd (h refl)
-entry-fits P S n (suc k) room at bs m e h a b = let g = entry-inverse P n (suc k) room at bs m e (sym a ∙ b) in
-    S .length-reads n k room m .0 (and-both (legal (P .rule (littleAt 4 at bs) n) m) (P .fits (suc k) room m) (g .length-passed) .1) .0
+entry-fits P S n k room at bs m e h a b = passed-fits P S n (P .rule (littleAt 4 at bs) n) k room m h (entry-inverse P n k room at bs m e (sym a ∙ b) .length-passed)

@@ -5,29 +5,24 @@ use mathlib.Core.List.{List, [], _∷_}
 use Prim.Native.Nat.{ℕ, zero, suc, _+_, _-_, _*_, _<_, _≤_}
 use native.Mathlib.Omega.{arith}
 use lib.Dec.{eqb}
-use lib.ListN.{length, take, drop, getD}
+use lib.ListN.{length, take, getD}
 use lib.Seq.{take-all}
 use borrow.Author.Tests.{eq-eqb, ne-eqb, eqb-true}
 use Rattle.digits.proofs.Choices.{test, both-ways}
 use Rattle.digits.specs.LittleEndian.{fromLittle, littleAt}
 use Rattle.form.specs.declared.Judgement.{Judgement}
-use Rattle.form.specs.declared.Judgement.the-variants.{Whole, Bad, Waiting}
+use Rattle.form.specs.declared.Judgement.the-variants.{Whole, Bad}
 use Rattle.form.specs.Form.{Form, whole, _>>=_, judge, judgeAt}
 use Rattle.form.specs.Pieces.{any, four, marker, free, frees}
 use Rattle.form.proofs.Laws.{go-on, stop, whole-there, four-whole, four-bad, free-whole, frees-whole, marker-whole, marker-other}
 use Rattle.mmwave.specs.declared.Rule.{Rule}
 use Rattle.mmwave.specs.declared.Rule.the-variants.{Exact}
-use Rattle.mmwave.specs.Profile.{Profile, legal, typeOk, lengthOk, Sound}
-use Rattle.mmwave.specs.Packet.{magic, entry, last, records, counted, packet, settled}
-use Rattle.mmwave.proofs.Laws.{and-both, type-test, records-none, records-more}
+use Rattle.mmwave.specs.Profile.{Profile, typeOk, lengthOk}
+use Rattle.mmwave.specs.Packet.{magic, entry, last, records, counted, packet}
+use Rattle.mmwave.specs.Walk.{settled}
+use Rattle.mmwave.proofs.Laws.{type-test, records-none, records-more}
 
 -- -- The records
-
--- a payload length that passed lies in the room
-pub passed-fits : (P : Profile) → Sound P → (n : ℕ) (rule : Rule) (k room m : ℕ) → (k ≡ 0 → ⊥) → lengthOk P rule k room m ≡ true → m ≤ room
-unfolding lengthOk
-passed-fits P S n rule zero room m h a = absurd (h refl)
-passed-fits P S n rule (suc k) room m h a = S .length-reads n k room m .0 (and-both (legal rule m) (P .fits (suc k) room m) a .1) .0
 
 -- without records there is only the padding
 pub settled-none : (P : Profile) (n k room at : ℕ) (bs : List ℕ) → k ≡ 0 → at + 8 * k + room ≤ length bs → settled P 0 (at + 8 * k + room) ≡ judgeAt (records P n k room) at bs
@@ -178,17 +173,18 @@ pub magic-met : (bs : List ℕ) → 8 ≤ length bs → FourAre bs 0 2 1 4 3 →
 unfolding magic
 magic-met bs h a b = eight bs h ∙ rw (a .0, a .1, a .2, a .3, b .0, b .1, b .2, b .3)
 
+-- and the other way round
 pub magic-fours : (bs : List ℕ) → 8 ≤ length bs → take 8 bs ≡ magic → FourAre bs 0 2 1 4 3 × FourAre bs 4 6 5 8 7
 unfolding magic
 magic-fours bs h e = let f = sym (eight bs h) ∙ e in ((cc, cc, cc, cc), (cc, cc, cc, cc))
 
--- four bytes are four others exactly if their numbers are equal
-
 module _ (a b c d w x y z : ℕ) {p q : ℕ} (p-is : p ≡ fromLittle (a ∷ b ∷ c ∷ d ∷ [])) (q-is : q ≡ fromLittle (w ∷ x ∷ y ∷ z ∷ [])) where
+  -- four bytes whose number is that of four others are these
   pub same-bytes : a < 256 → b < 256 → c < 256 → d < 256 → w < 256 → x < 256 → y < 256 → z < 256 → eqb p q ≡ true → (a ≡ w) × (b ≡ x) × (c ≡ y) × (d ≡ z)
   unfolding fromLittle
   same-bytes ha hb hc hd hw hx hy hz e = let f = eqb-true p q e in (omega arith, omega arith, omega arith, omega arith)
 
+  -- and with another number they are not
   pub other-bytes : eqb p q ≡ false → (a ≡ w) × (b ≡ x) × (c ≡ y) × (d ≡ z) → ⊥
   other-bytes e s = both-ways (eqb p q) (eq-eqb p q (p-is ∙ numbers ∙ sym q-is)) e
     where

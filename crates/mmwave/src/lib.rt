@@ -7,7 +7,8 @@ ghost use Rattle.digits.specs.LittleEndian.{littleAt};
 ghost use Rattle.form.specs.Form.{judge as Form·judge, judgeAt};
 ghost use Rattle.form.specs.Pieces.{four, marker};
 ghost use Rattle.mmwave.specs.Profile.{legal, lengthOk, typeOk};
-ghost use Rattle.mmwave.specs.Packet.{magic, entry, last, records, counted, packet, settled};
+ghost use Rattle.mmwave.specs.Packet.{magic, entry, last, records, counted, packet};
+ghost use Rattle.mmwave.specs.Walk.{settled};
 ghost use Rattle.mmwave.specs.MmWave.{mmWave, perObject};
 use form::Judgement;
 
