@@ -47,10 +47,10 @@ extern "C" {
 #define VQ_KIND_ERROR 6u   /* SiRad E: error flags, 8 bytes */
 #define VQ_KIND_PACKET 16u /* mmWave packet, a multiple of 32 from 64 to 32768 bytes */
 
-/* States of a judgement. */
-#define VQ_WHOLE 0u   /* a frame stands at the place: kind and length are given */
-#define VQ_BAD 1u     /* none stands there, whatever follows: the reason is given */
-#define VQ_WAITING 2u /* none stands there yet */
+/* States of a judgement. A refusal has state 0, which is none of them. */
+#define VQ_WHOLE 1u   /* a frame stands at the place: kind and length are given */
+#define VQ_BAD 2u     /* none stands there, whatever follows: the reason is given */
+#define VQ_WAITING 3u /* none stands there yet */
 
 /* Reasons of a bad SiRad place: the first byte that fails. */
 #define VQ_BAD_START 10u      /* no start marker */
@@ -95,7 +95,7 @@ extern "C" {
 /*
  * The judgement on the bytes from `offset` on.
  *   refusal  0, or 1, 3, 2: the first of them in this order that applies
- *   state    VQ_WHOLE, VQ_BAD or VQ_WAITING
+ *   state    VQ_WHOLE, VQ_BAD or VQ_WAITING; 0 with a refusal
  *   kind     of the frame, if whole; else 0
  *   reason   10 to 14 or 20 to 24, if bad; else 0
  *   length   of the frame, if whole; else 0

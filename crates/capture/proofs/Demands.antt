@@ -26,6 +26,7 @@ use Rattle.reading.specs.Reading.{Reading, reading, flat, rowWidth}
 use Rattle.reading.specs.declared.Answer.{Answer}
 use Rattle.reading.specs.declared.Row.{Row}
 use Rattle.reading.proofs.Prefix as prefix
+use Rattle.reading.proofs.Resuming as resuming
 use Rattle.reading.proofs.Rows as rows
 use Rattle.reading.proofs.LeftmostLaws as leftmost
 use Rattle.reading.proofs.CourseLaws as courses
@@ -38,7 +39,7 @@ use Rattle.mmwave.specs.MmWave.{mmWave, totalLegal, countLegal, perObject, payl
 use Rattle.mmwave.specs.Packet.{magic, entry, last, records, counted, packet}
 use Rattle.mmwave.specs.Profile.{typeOk, lengthOk}
 use Rattle.mmwave.proofs.Paper.{frame-exactly-if-packet}
-use Rattle.mmwave.proofs.Insides.{waits-outside, waits-inside}
+use Rattle.mmwave.proofs.FieldEnds.{waits-outside, waits-inside}
 use Rattle.units.specs.Float.{significand, scale}
 use Rattle.units.specs.Rounding.{nearest}
 use Rattle.units.specs.Units.{decibels, centidegrees, millimetres}
@@ -46,7 +47,7 @@ use Rattle.capture.specs.Demands as say
 use Rattle.capture.specs.Demands.{StandsIn, judgedAt, EndsInsideField, ChoosesFirst}
 use Rattle.capture.specs.Dialects.{dialectOf, formOf, judgeOf, startOf}
 use Rattle.capture.specs.Edges.{edges}
-use Rattle.capture.specs.Entries.{maxBytes, verdict, numbersOf, readAnswer, readLeaves}
+use Rattle.capture.specs.Entries.{maxBytes, verdict, verdictNumbers, readAnswer, readLeaves}
 use Rattle.capture.specs.Lines.{closedRows, emptyPart, chosen, partOf}
 use Rattle.capture.specs.declared.Asked.{Asked}
 use Rattle.capture.specs.declared.Asked.the-variants.{Known, Unknown}
@@ -124,8 +125,8 @@ lengths-and-skips-are-next d closed bs room = rows.lengths-and-skips-are-next (j
 pub skips-counted : say.SkipsCounted
 skips-counted d closed bs room = courses.skips-counted (judgeOf d) (lawful-of d) closed bs room
 
-pub state-exactly : say.StateExactly
-state-exactly d closed bs room state = courses.state-exactly (judgeOf d) (lawful-of d) closed bs room state
+pub stops-exactly : say.StopsExactly
+stops-exactly d closed bs room at state = courses.stops-exactly (judgeOf d) (lawful-of d) closed bs room at state
 
 pub open-rows-begin-closed-rows : say.OpenRowsBeginClosedRows
 open-rows-begin-closed-rows d bs room = rows.open-rows-begin-closed-rows (judgeOf d) (lawful-of d) bs room
@@ -134,6 +135,12 @@ open-rows-begin-closed-rows d bs room = rows.open-rows-begin-closed-rows (judgeO
 
 pub open-begins : say.OpenBegins
 open-begins d A B l room = prefix.open-begins (judgeOf d) (lawful-of d) room A B
+
+pub open-resumes : say.OpenResumes
+open-resumes d A B l room more = resuming.open-resumes (judgeOf d) (lawful-of d) room more A B
+
+pub closed-resumes : say.ClosedResumes
+closed-resumes d bs room more = resuming.closed-resumes (judgeOf d) (lawful-of d) room more bs
 
 -- what comes first is within the limit too
 first-within : (A B : List ℕ) → length (A ++ B) ≤ maxBytes → length A ≤ maxBytes
@@ -192,15 +199,15 @@ asked-none : (number : ℕ) → 2 ≤ number → dialectOf number ≡ Unknown
 unfolding dialectOf
 asked-none number h = rw (ne-eqb number 0 (omega arith), ne-eqb number 1 (omega arith))
 
-not-refused : (j : Judgement) → numbersOf (Judged j) .refusal ≡ 0
+not-refused : (j : Judgement) → verdictNumbers (Judged j) .refusal ≡ 0
 not-refused (Whole k n) = refl
 not-refused (Bad r) = refl
 not-refused Waiting = refl
 
-verdict-refuses : (d : Dialect) (bs : List ℕ) (at : ℕ) → (numbersOf (verdict (Known d) bs at) .refusal ≡ 0) ↔ ((length bs ≤ maxBytes) × (at ≤ length bs))
-verdict-refuses d bs at = (there (decLt maxBytes (length bs)) (decLt (length bs) at), (λ h. ap (λ (v : Verdict). numbersOf v .refusal) (judged-is d bs at (h .0) (h .1)) ∙ not-refused (judgeOf d (drop at bs))))
+verdict-refuses : (d : Dialect) (bs : List ℕ) (at : ℕ) → (verdictNumbers (verdict (Known d) bs at) .refusal ≡ 0) ↔ ((length bs ≤ maxBytes) × (at ≤ length bs))
+verdict-refuses d bs at = (there (decLt maxBytes (length bs)) (decLt (length bs) at), (λ h. ap (λ (v : Verdict). verdictNumbers v .refusal) (judged-is d bs at (h .0) (h .1)) ∙ not-refused (judgeOf d (drop at bs))))
   where
-    there : Dec (maxBytes < length bs) → Dec (length bs < at) → numbersOf (verdict (Known d) bs at) .refusal ≡ 0 → (length bs ≤ maxBytes) × (at ≤ length bs)
+    there : Dec (maxBytes < length bs) → Dec (length bs < at) → verdictNumbers (verdict (Known d) bs at) .refusal ≡ 0 → (length bs ≤ maxBytes) × (at ≤ length bs)
     there (yes l) m e = let z : _≡_ {A = ℕ} 3 0 = rw (← verdict-long d bs at l) at e in absurd (omega arith)
     there (no l) (yes m) e = let z : _≡_ {A = ℕ} 2 0 = rw (← verdict-beyond d bs at (omega arith) m) at e in absurd (omega arith)
     there (no l) (no m) e = (omega arith, omega arith)
@@ -208,7 +215,7 @@ verdict-refuses d bs at = (there (decLt maxBytes (length bs)) (decLt (length bs)
 pub judgement-refuses-only : say.JudgementRefusesOnly
 judgement-refuses-only number bs at = by-number (decLt number 2)
   where
-    by-number : Dec (number < 2) → (numbersOf (verdict (dialectOf number) bs at) .refusal ≡ 0) ↔ ((number < 2) × (length bs ≤ maxBytes) × (at ≤ length bs))
+    by-number : Dec (number < 2) → (verdictNumbers (verdict (dialectOf number) bs at) .refusal ≡ 0) ↔ ((number < 2) × (length bs ≤ maxBytes) × (at ≤ length bs))
     by-number (yes l) =
         let k = asked-is number l in
         let v = verdict-refuses (k .0) bs at in

@@ -9,10 +9,11 @@ use native.Mathlib.Nat.{add-sub-cancel-left}
 use lib.Dec.{ltb}
 use lib.ListN.{length, take, drop, getD}
 use borrow.Author.Tests.{lt-ltb, le-ltb}
+use denote.Ref.{RefT, ptr, now}
 use Rattle.digits.specs.Stores.{stored}
 use Rattle.digits.proofs.Choices.{test}
 use Rattle.form.specs.declared.Judgement.{Judgement}
-use Rattle.reading.specs.Answers.{Gives}
+use Rattle.reading.specs.Internal.{Gives}
 use Rattle.reading.specs.Leftmost.{RowsStand}
 use Rattle.reading.specs.Reading.{reading, flat}
 use Rattle.reading.specs.declared.Answer.{Answer}
@@ -21,7 +22,7 @@ use Rattle.reading.proofs.LeftmostLaws.{closed-begins-leftmost, leftmost-exists
 use Rattle.reading.proofs.Rows.{rows-stand}
 use Rattle.capture.specs.Dialects.{judgeOf}
 use Rattle.capture.specs.Entries.{maxBytes}
-use Rattle.capture.specs.Lines.{closedRows, firstRow, rowPart, emptyPart, chosen, partOf, bytesOf}
+use Rattle.capture.specs.Lines.{closedRows, firstRow, rowPart, emptyPart, chosen, partOf, lineOf, bytesOf, RefersTo}
 use Rattle.capture.specs.declared.Asked.{Asked}
 use Rattle.capture.specs.declared.Asked.the-variants.{Known, Unknown}
 use Rattle.capture.specs.declared.Dialect.{Dialect}
@@ -131,33 +132,29 @@ inner (Known d) main standby =
     inner-cond (ltb maxBytes (length main)) emptyPart _ main standby e
     (inner-cond (ltb maxBytes (length standby)) emptyPart _ main standby e (inner-chosen (judgeOf d) main standby (closedRows d main) (closedRows d standby) (closed-rows-stand d main) (closed-rows-stand d standby)))
 
--- its bytes, by the line that it is of
-pub standby-bytes : (p : Part) (main standby : List ℕ) → p .standby ≡ true → take (p .offset + p .size - p .offset) (drop (p .offset) standby) ≡ bytesOf p main standby
-standby-bytes p main standby e = rw (e, add-sub-cancel-left)
-
-pub main-bytes : (p : Part) (main standby : List ℕ) → p .standby ≡ false → take (p .offset + p .size - p .offset) (drop (p .offset) main) ≡ bytesOf p main standby
-main-bytes p main standby e = rw (e, add-sub-cancel-left)
-
 -- -- The same of a part that is known to be the chosen one
 
 pub part-asked : (asked asked′ : Asked) (main standby : List ℕ) (r : Part) → asked ≡ asked′ → r ≡ partOf asked main standby → r ≡ partOf asked′ main standby
 part-asked asked asked′ main standby r e h = h ∙ ap (λ (a : Asked). partOf a main standby) e
 
-module _ (asked : Asked) (main standby : List ℕ) (p : Part) (e : p ≡ partOf asked main standby) where
-  inner-is : Inner p main standby
-  inner-is = subst (λ (q : Part). Inner q main standby) (sym e) (inner asked main standby)
+-- what is seen of the chosen line is what is seen of each, chosen
+line-seen : {A B : Type 0} (f : A → B) (p : Part) (main standby : A) → f (lineOf p main standby) ≡ lineOf p (f main) (f standby)
+line-seen f p main standby = by-flag (p .standby)
+  where
+    by-flag : (t : Bool) → f (cond t standby main) ≡ cond t (f standby) (f main)
+    by-flag true = refl
+    by-flag false = refl
 
-  pub ends-in-standby : p .standby ≡ true → p .offset + p .size ≤ length standby
-  ends-in-standby s = rw s at inner-is
+module _ (asked : Asked) (main standby line : RefT (List ℕ)) (p : Part) (e : p ≡ partOf asked (now main) (now standby)) (l : line ≡ lineOf p main standby) where
+  line-bytes : now line ≡ lineOf p (now main) (now standby)
+  line-bytes = ap now l ∙ line-seen now p main standby
 
-  pub ends-in-main : p .standby ≡ false → p .offset + p .size ≤ length main
-  ends-in-main s = rw s at inner-is
+  -- the part ends within its line
+  pub ends-in : p .offset + p .size ≤ length (now line)
+  ends-in = rw (line-bytes, e) (inner asked (now main) (now standby))
 
-  pub ends-in-either : (p .offset + p .size ≤ length main) ⊎ (p .offset + p .size ≤ length standby)
-  ends-in-either = test (p .standby) (λ s. inr (ends-in-standby s)) (λ s. inl (ends-in-main s))
-
-  pub is-standby : p .standby ≡ true → take (p .offset + p .size - p .offset) (drop (p .offset) standby) ≡ bytesOf (partOf asked main standby) main standby
-  is-standby s = standby-bytes p main standby s ∙ ap (λ (q : Part). bytesOf q main standby) e
-
-  pub is-main : p .standby ≡ false → take (p .offset + p .size - p .offset) (drop (p .offset) main) ≡ bytesOf (partOf asked main standby) main standby
-  is-main s = main-bytes p main standby s ∙ ap (λ (q : Part). bytesOf q main standby) e
+  -- a reference to that part of the line refers to the chosen part
+  pub refers : (r : RefT (List ℕ)) → ptr r .0 ≡ ptr line .0 → ptr r .1 ≡ p .offset + ptr line .1
+      → now r ≡ take (p .offset + p .size - p .offset) (drop (p .offset) (now line)) → RefersTo (partOf asked (now main) (now standby)) main standby r
+  refers r b o n = subst (λ (q : Part). RefersTo q main standby r) e
+      (record { block = b ∙ ap (λ (x : RefT (List ℕ)). ptr x .0) l; place = o ∙ ap (λ (x : RefT (List ℕ)). p .offset + ptr x .1) l; bytes = n ∙ rw (line-bytes, add-sub-cancel-left) })

@@ -1,5 +1,8 @@
--- The front door: what is proved of captures, in the words of the demands and of paper 01. Each definition below the words is a proposition; its proof has the same name in small letters, in proofs/Demands.antt.
--- The entries' promises are equations with `verdict`, `readAnswer`, `readLeaves` and `partOf`, so what is said of these is said of the entries' answers. Lists hold any numbers, so bytes among them; `Bytes` says that each is below 256 where a theorem needs it.
+-- The front door: what is proved of captures, in the words of the demands and of paper 01.
+-- Each definition below is a proposition under its words; its proof has the same name in small letters, in proofs/Demands.antt.
+-- `judge_at` promises that its answer is `verdict`, the readings that theirs are `readAnswer` and leave `readLeaves` in the table, the choice of lines
+-- that its part is `partOf` (and, `RefersTo`, that the reference is to that part): so what is said of these is said of the answers.
+-- Lists hold any numbers; `Bytes` says that each is below 256 where a theorem needs it.
 use mathlib.Core.Bool.{Bool, true, false}
 use mathlib.Core.Path.{_≡_}
 use mathlib.Core.List.{List, [], _∷_, _++_, map}
@@ -13,17 +16,17 @@ use Rattle.reading.specs.Answers.{answered, roomIn}
 use Rattle.reading.specs.Begins.{Begins}
 use Rattle.reading.specs.Course.{Halts, SkippedAt, Counted}
 use Rattle.reading.specs.Leftmost.{Standing, NoneStands, Leftmost}
+use Rattle.reading.specs.Resuming.{joined, shifted}
 use Rattle.reading.specs.Reading.{Reading, reading, flat, rowWidth, lengths, stateFull, stateEnd}
 use Rattle.reading.specs.declared.Row.{Row}
 use Rattle.sirad.specs.Sirad.{sirad}
 use Rattle.sirad.specs.Table.{TableFrame}
 use Rattle.mmwave.specs.MmWave.{mmWave}
 use Rattle.mmwave.specs.Packet.{packet}
-use Rattle.mmwave.specs.Document.{EndsInside}
-use Rattle.mmwave.specs.Paper.{Packet}
+use Rattle.mmwave.specs.Paper.{Packet, EndsInField}
 use Rattle.capture.specs.Dialects.{dialectOf, formOf, judgeOf}
 use Rattle.capture.specs.Edges.{Line, resultOf, edges}
-use Rattle.capture.specs.Entries.{maxBytes, verdict, numbersOf, readAnswer, readLeaves}
+use Rattle.capture.specs.Entries.{maxBytes, verdict, verdictNumbers, readAnswer, readLeaves}
 use Rattle.capture.specs.Lines.{rowPart, emptyPart, partOf}
 use Rattle.capture.specs.declared.Asked.{Asked}
 use Rattle.capture.specs.declared.Asked.the-variants.{Known}
@@ -53,14 +56,14 @@ closedOf d room bs = reading (judgeOf d) true room bs
 -- the bytes "end inside" a four-byte field, of which SiRad has none (paper 01, "Judging a place")
 abbrev pub EndsInsideField : Dialect → List ℕ → Type 0
 EndsInsideField Sirad bs = ⊥
-EndsInsideField Mmwave bs = EndsInside mmWave bs
+EndsInsideField Mmwave bs = EndsInField bs
 
 -- -- Demand 1: bad input is answered with a number, and a refusal changes nothing
 
 -- the judgement refuses nothing but a dialect other than 0 and 1, more than 1,048,576 bytes, and an offset beyond the length
 abbrev pub JudgementRefusesOnly : Type 0
 JudgementRefusesOnly =
-    (number : ℕ) (bs : List ℕ) (at : ℕ) → (numbersOf (verdict (dialectOf number) bs at) .refusal ≡ 0) ↔ ((number < 2) × (length bs ≤ maxBytes) × (at ≤ length bs))
+    (number : ℕ) (bs : List ℕ) (at : ℕ) → (verdictNumbers (verdict (dialectOf number) bs at) .refusal ≡ 0) ↔ ((number < 2) × (length bs ≤ maxBytes) × (at ≤ length bs))
 
 -- a reading refuses nothing but a dialect other than 0 and 1 and more than 1,048,576 bytes
 abbrev pub ReadingRefusesOnly : Type 0
@@ -123,9 +126,12 @@ LengthsAndSkipsAreNext = (d : Dialect) (closed : Bool) (bs : List ℕ) (room : �
 abbrev pub SkipsCounted : Type 0
 SkipsCounted = (d : Dialect) (closed : Bool) (bs : List ℕ) (room : ℕ) → Counted (SkippedAt (judgeOf d) closed bs 0 room) (reading (judgeOf d) closed room bs .skipped)
 
--- each state exactly if the reading comes to a place at which it stops so; state 1 at a whole frame with no row left
-abbrev pub StateExactly : Type 0
-StateExactly = (d : Dialect) (closed : Bool) (bs : List ℕ) (room state : ℕ) → (reading (judgeOf d) closed room bs .state ≡ state) ↔ Halts (judgeOf d) closed bs room state
+-- the next place and the state are those at which the reading stops: open, at a waiting place with state 0; closed, at the end with state 2;
+-- either, at a whole frame with no row left with state 1
+abbrev pub StopsExactly : Type 0
+StopsExactly =
+    (d : Dialect) (closed : Bool) (bs : List ℕ) (room at state : ℕ)
+    → (let r = reading (judgeOf d) closed room bs in ((r .next ≡ at) × (r .state ≡ state)) ↔ Halts (judgeOf d) closed bs room at state)
 
 -- the open rows are the first of the closed rows on the same bytes
 abbrev pub OpenRowsBeginClosedRows : Type 0
@@ -146,6 +152,20 @@ abbrev pub FullIsFinal : Type 0
 FullIsFinal =
     (d : Dialect) (A B : List ℕ) → length (A ++ B) ≤ maxBytes → (table : List ℕ) → readAnswer (Known d) false A (roomIn table) .state ≡ stateFull
     → (readAnswer (Known d) false A (roomIn table) ≡ readAnswer (Known d) false (A ++ B) (roomIn table)) × (readLeaves (Known d) false A table ≡ readLeaves (Known d) false (A ++ B) table)
+
+-- the reading goes on where it stopped: the open reading of A followed by B, with more rows, is that of A and then the open reading of all bytes
+-- from A's next place on, its places shifted; whether A's reading stopped to wait or at a full table
+abbrev pub OpenResumes : Type 0
+OpenResumes =
+    (d : Dialect) (A B : List ℕ) → length (A ++ B) ≤ maxBytes → (room more : ℕ)
+    → (let r = openOf d room A in
+    openOf d (length (r .rows) + more) (A ++ B) ≡ joined r (shifted (r .next) (openOf d more (drop (r .next) (A ++ B)))))
+
+-- a closed reading that stopped at a full table goes on in the same way, on the same bytes
+abbrev pub ClosedResumes : Type 0
+ClosedResumes =
+    (d : Dialect) (bs : List ℕ) (room more : ℕ)
+    → (let r = closedOf d room bs in closedOf d (length (r .rows) + more) bs ≡ joined r (shifted (r .next) (closedOf d more (drop (r .next) bs))))
 
 -- each place that is judged whole or bad in A is judged alike in A followed by B, with the same kind and length or the same reason
 abbrev pub JudgedAlike : Type 0

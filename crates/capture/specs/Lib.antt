@@ -1,5 +1,5 @@
 pub mod Dialects
-pub mod Scan
+pub mod Internal
 pub mod Entries
 pub mod Lines
 pub mod Edges

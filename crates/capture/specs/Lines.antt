@@ -1,9 +1,11 @@
 -- The choice between two lines (paper 01, "Two lines").
 use mathlib.Core.Bool.{Bool, true, false, cond}
+use mathlib.Core.Path.{_≡_}
 use mathlib.Core.List.{List, [], _∷_}
-use Prim.Native.Nat.{ℕ}
+use Prim.Native.Nat.{ℕ, _+_}
 use lib.Dec.{ltb}
 use lib.ListN.{length, take, drop}
+use denote.Ref.{RefT, ptr, now}
 use Rattle.reading.specs.Reading.{reading}
 use Rattle.reading.specs.declared.Row.{Row}
 use Rattle.capture.specs.Dialects.{judgeOf}
@@ -42,6 +44,16 @@ partOf Unknown main standby = emptyPart
 partOf (Known d) main standby =
     cond (ltb maxBytes (length main)) emptyPart (cond (ltb maxBytes (length standby)) emptyPart (chosen (closedRows d main) (closedRows d standby)))
 
+-- the line that a part is of
+abbrev pub lineOf : {A : Type 0} → Part → A → A → A
+lineOf p main standby = cond (p .standby) standby main
+
 -- the bytes of a part
 abbrev pub bytesOf : Part → List ℕ → List ℕ → List ℕ
-bytesOf p main standby = take (p .size) (drop (p .offset) (cond (p .standby) standby main))
+bytesOf p main standby = take (p .size) (drop (p .offset) (lineOf p main standby))
+
+-- the reference is to the part itself: it points into the part's own line, at its offset, and to its bytes (paper 01, "Two lines")
+pub record RefersTo (p : Part) (main standby r : RefT (List ℕ)) : Type 0 where
+  pub block : ptr r .0 ≡ ptr (lineOf p main standby) .0
+  pub place : ptr r .1 ≡ p .offset + ptr (lineOf p main standby) .1
+  pub bytes : now r ≡ bytesOf p (now main) (now standby)

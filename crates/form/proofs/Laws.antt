@@ -16,8 +16,13 @@ use Rattle.digits.proofs.Lists.{drop-one, drop-four}
 use Rattle.form.specs.declared.Judgement.{Judgement}
 use Rattle.form.specs.declared.Judgement.the-variants.{Whole, Bad, Waiting}
 use Rattle.form.specs.Form.{Form, whole, byte, word, _>>=_, judge, judgeAt, Frame}
+use Rattle.form.specs.Numbers.{numbersOf, Judges}
 use Rattle.form.specs.Pieces.{any, four, marker, free, frees}
 use Rattle.form.proofs.Judgement.{the-type}
+
+-- the promise of a judgement is its equation
+pub judges : {p : Form} {at : ℕ} {bs : List ℕ} {r : Judgement} → r ≡ judgeAt p at bs → Judges p at bs r
+judges e = record { answers = e; numbers = ap numbersOf e }
 
 -- -- One node
 

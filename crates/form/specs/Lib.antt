@@ -1,3 +1,4 @@
 pub mod Form
+pub mod Numbers
 pub mod Pieces
 pub mod Judging

@@ -2,29 +2,12 @@
 // A slice is a pointer that is not null and a count; the numbers of each answer are those of paper 01.
 
 use capture::Verdict;
-use form::Judgement;
+use form::JudgementNumbers;
 ghost use mathlib.Core.Path.{_≡_};
 ghost use Rattle.capture.specs.Dialects.{dialectOf};
-ghost use Rattle.capture.specs.Entries.{verdict};
+ghost use Rattle.capture.specs.Entries.{verdict, verdictNumbers};
 ghost use Rattle.units.specs.Units.{millimetres};
-ghost use Rattle.gateway.specs.Numbers.{judgementNumbers, verdictNumbers, quantityNumbers};
-
-// What stands at an offset.
-pub const STATE_WHOLE: u32 = 0;
-
-pub const STATE_BAD: u32 = 1;
-
-pub const STATE_WAITING: u32 = 2;
-
-// A judgement: the refusal number (0: none), the state, kind and length of a whole frame, the reason of a bad one.
-#[repr(C)]
-pub struct Judged {
-    pub refusal: u32,
-    pub state: u32,
-    pub kind: u32,
-    pub reason: u32,
-    pub length: usize,
-}
+ghost use Rattle.gateway.specs.Numbers.{quantityNumbers};
 
 // A coordinate in whole millimetres, or the refusal number.
 #[repr(C)]
@@ -33,48 +16,21 @@ pub struct Millimetres {
     pub value: i32,
 }
 
-fn judgement_numbers(j: Judgement) -> Judged
-    ensures { λ r. ⌜ r ≡ judgementNumbers j ⌝ }
-{
-    match j {
-        Judgement::Whole(kind, size) => Judged {
-            refusal: 0,
-            state: STATE_WHOLE,
-            kind: kind,
-            reason: 0,
-            length: size,
-        },
-        Judgement::Bad(reason) => Judged {
-            refusal: 0,
-            state: STATE_BAD,
-            kind: 0,
-            reason: reason,
-            length: 0,
-        },
-        Judgement::Waiting => Judged {
-            refusal: 0,
-            state: STATE_WAITING,
-            kind: 0,
-            reason: 0,
-            length: 0,
-        },
-    }
-}
-
-// The judgement of the bytes from `offset` on: `!E0000`, CR, LF in dialect 0 at offset 0 is whole, of kind 6 and 8 bytes.
+// The judgement of the bytes from `offset` on: `!E0000`, CR, LF in dialect 0 at offset 0 is whole (state 1), of kind 6 and 8 bytes.
+// With a refusal every other number is 0, and no state is.
 #[no_mangle]
-pub extern "C" fn vq_judge(dialect: u32, bytes: &[u8], offset: usize) -> Judged
+pub extern "C" fn vq_judge(dialect: u32, bytes: &[u8], offset: usize) -> JudgementNumbers
     ensures { λ r. ⌜ r ≡ verdictNumbers (verdict (dialectOf dialect) (now (bytes .entry)) offset) ⌝ }
 {
     match capture::judge_at(dialect, bytes, offset) {
-        Verdict::Refused(number) => Judged {
+        Verdict::Refused(number) => JudgementNumbers {
             refusal: number,
             state: 0,
             kind: 0,
             reason: 0,
             length: 0,
         },
-        Verdict::Judged(j) => judgement_numbers(j),
+        Verdict::Judged(j) => form::numbers_of(j),
     }
 }
 

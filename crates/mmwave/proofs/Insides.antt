@@ -1,4 +1,4 @@
--- Where a packet's bytes end inside a four-byte field, by offsets: the clause of demand 3 as the paper defines it.
+-- Where a packet's bytes end inside a four-byte field, by offsets, for any profile.
 use mathlib.Core.Bool.{Bool, true, false}
 use mathlib.Core.Path.{_≡_, refl, sym, ap, _∙_}
 use mathlib.Core.List.{List}
@@ -6,7 +6,6 @@ use mathlib.Core.Logic.{_↔_, _⊎_, inl, inr}
 use Prim.Native.Nat.{ℕ, zero, suc, _+_, _-_, _*_, _<_, _≤_}
 use native.Mathlib.Omega.{arith}
 use lib.ListN.{length, take}
-use Rattle.digits.specs.Bytes.{Bytes}
 use Rattle.digits.specs.LittleEndian.{littleAt}
 use Rattle.form.specs.declared.Judgement.{Judgement}
 use Rattle.form.specs.declared.Judgement.the-variants.{Whole, Bad, Waiting}
@@ -19,9 +18,7 @@ use Rattle.mmwave.specs.Profile.{Profile, legal, typeOk, lengthOk}
 use Rattle.mmwave.specs.Packet.{magic, entry, last, records, counted, packet}
 use Rattle.mmwave.specs.Document.{HeaderHolds, Reached, first, next, EndsInside, in-version, in-total, in-free, in-objects, in-count, in-subframe, in-type, in-length}
 use Rattle.mmwave.proofs.Laws.{EntryRead, entry-inverse}
-use Rattle.mmwave.specs.MmWave.{mmWave}
 use Rattle.mmwave.proofs.Document.{entry-whole}
-use Rattle.mmwave.proofs.Theorems.{mmwave-waits, mmwave-inside}
 
 -- -- From the form to the offsets
 
@@ -187,14 +184,6 @@ module _ (P : Profile) (bs : List ℕ) where
       (inside-then (four 23 (typeOk P n (suc k) room)) _ p bs (littleAt 4 p bs) (p + 4) (sym (four-whole 23 (typeOk P n (suc k) room) p bs (omega (arith, c .0)) t))
       (four-first 24 (lengthOk P (P .rule (littleAt 4 p bs) n) (suc k) room) _ (p + 4) bs c)))
 
--- the form's bytes end inside a field exactly if the packet's do, as the paper defines it
+-- the form's bytes end inside a field exactly if the packet's do, by offsets
 pub inside-exactly : (P : Profile) (bs : List ℕ) → Inside (packet P) bs ↔ EndsInside P bs
 inside-exactly P bs = (inside-forth P bs, inside-back P bs)
-
--- bytes that do not end inside a four-byte field, as the paper defines it, wait exactly if no packet stands and some further bytes complete one
-pub waits-outside : (bs : List ℕ) → Bytes bs → (EndsInside mmWave bs → ⊥) → (judge (packet mmWave) 0 bs ≡ Waiting) ↔ Completable (packet mmWave) bs
-waits-outside bs b o = mmwave-waits bs b (λ i. o (inside-exactly mmWave bs .0 i))
-
--- bytes that end inside a four-byte field, as the paper defines it, wait
-pub waits-inside : (bs : List ℕ) → EndsInside mmWave bs → judge (packet mmWave) 0 bs ≡ Waiting
-waits-inside bs e = mmwave-inside bs (inside-exactly mmWave bs .1 e)

@@ -24,13 +24,18 @@ use Rattle.mmwave.proofs.Reasons.{reason-22, count-exactly, type-exactl
 use Rattle.mmwave.proofs.Refusals.{bad-exactly}
 
 -- the room is what the total length leaves behind the headers of the records left
-record Roomed (bs : List ℕ) (k p room : ℕ) : Type 0 where
-  aligned : littleAt 4 12 bs % 32 ≡ 0
-  headers : p + 8 * k ≤ littleAt 4 12 bs
-  is-room : room ≡ littleAt 4 12 bs - (p + 8 * k)
+pub record Roomed (bs : List ℕ) (k p room : ℕ) : Type 0 where
+  pub aligned : littleAt 4 12 bs % 32 ≡ 0
+  pub headers : p + 8 * k ≤ littleAt 4 12 bs
+  pub is-room : room ≡ littleAt 4 12 bs - (p + 8 * k)
+
+-- the test of a total length is the paper's sentence
+pub total-exactly : (l : ℕ) → (mmWave .total l ≡ true) ↔ TotalLegal l
+unfolding mmWave
+total-exactly l = (total-bounds l, λ b. total-legal l (b .0) (b .1) (b .2))
 
 module _ (bs : List ℕ) where
-  reached-room : {k p room : ℕ} → Reached mmWave bs k p room → Roomed bs k p room
+  pub reached-room : {k p room : ℕ} → Reached mmWave bs k p room → Roomed bs k p room
   unfolding mmWave lengthOk
   reached-room (first h) = record { aligned = total-bounds (littleAt 4 12 bs) (h .total) .0; headers = mmWave-sound .count-room (littleAt 4 12 bs) (littleAt 4 32 bs) (h .count); is-room = refl }
   reached-room (next {k = k} {p = p} {room = room} r t l w) =
@@ -38,7 +43,7 @@ module _ (bs : List ℕ) where
       let i = mmWave-sound .length-reads n k room m .0 (and-both (legal (mmWave .rule (littleAt 4 p bs) n) m) (mmWave .fits (suc k) room m) l .1) .0 in
       record { aligned = g .aligned; headers = omega (arith, g .headers, g .is-room, i); is-room = omega (arith, g .headers, g .is-room, i) }
 
-  type-words : (k p room : ℕ) → Roomed bs (suc k) p room → (typeOk mmWave (littleAt 4 28 bs) (suc k) room (littleAt 4 p bs) ≡ true) ↔ TypeFits (littleAt 4 28 bs) (littleAt 4 12 bs) p k (littleAt 4 p bs)
+  pub type-words : (k p room : ℕ) → Roomed bs (suc k) p room → (typeOk mmWave (littleAt 4 28 bs) (suc k) room (littleAt 4 p bs) ≡ true) ↔ TypeFits (littleAt 4 28 bs) (littleAt 4 12 bs) p k (littleAt 4 p bs)
   type-words k p room g = rw (g .is-room) (type-exactly (littleAt 4 28 bs) (littleAt 4 12 bs) p k (g .aligned) (g .headers) (littleAt 4 p bs))
 
   length-words : (k p room : ℕ) → Roomed bs (suc k) p room
@@ -137,10 +142,6 @@ module _ (bs : List ℕ) where
   -- judged bad with 20 exactly if a byte that is there is another than the magic's, and those before it are as in the magic
   pub judged-20 : (judge (packet mmWave) 0 bs ≡ Bad 20) ↔ Broken magic bs
   judged-20 = (λ w. magic-refused 20 (bad-exactly mmWave bs 20 .0 w) refl, λ b. bad-exactly mmWave bs 20 .1 (at-magic b))
-
-  total-exactly : (l : ℕ) → (mmWave .total l ≡ true) ↔ TotalLegal l
-  unfolding mmWave
-  total-exactly l = (total-bounds l, λ b. total-legal l (b .0) (b .1) (b .2))
 
   total-refused : (r : ℕ) → Refused mmWave bs r → r ≡ 21 → TotalRefused bs
   unfolding magic

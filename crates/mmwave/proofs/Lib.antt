@@ -10,3 +10,4 @@ pub mod Edges
 pub mod Refusals
 pub mod Judged
 pub mod Insides
+pub mod FieldEnds

@@ -19,7 +19,7 @@ use Rattle.mmwave.specs.declared.Rule.{Rule}
 use Rattle.mmwave.specs.declared.Rule.the-variants.{Exact}
 use Rattle.mmwave.specs.Profile.{Profile, typeOk, lengthOk}
 use Rattle.mmwave.specs.Packet.{magic, entry, last, records, counted, packet}
-use Rattle.mmwave.specs.Walk.{settled}
+use Rattle.mmwave.specs.Internal.{settled}
 use Rattle.mmwave.proofs.Laws.{type-test, records-none, records-more}
 
 -- -- The records

@@ -1,4 +1,4 @@
--- A packet by its offsets, for any profile: what field readers go by. The theorem `frame-exactly-if-laid` says that it is the form's frame.
+-- A packet by its offsets, for any profile: what stands between the form and the paper's own sentences (`frame-exactly-if-laid`, `bad-exactly`, `inside-exactly`).
 use mathlib.Core.Bool.{true, false}
 use mathlib.Core.Path.{_≡_}
 use mathlib.Core.List.{List}
@@ -50,8 +50,8 @@ pub data Refused (P : Profile) (bs : List ℕ) : ℕ → Type 0 where
   at-length : {k p room : ℕ} → Reached P bs (suc k) p room → p + 8 ≤ length bs → typeOk P (littleAt 4 28 bs) (suc k) room (littleAt 4 p bs) ≡ true
       → lengthOk P (P .rule (littleAt 4 p bs) (littleAt 4 28 bs)) (suc k) room (littleAt 4 (p + 4) bs) ≡ false → Refused P bs 24
 
--- the bytes "end inside" a four-byte field: a header field behind the magic, or a record's type or payload length; every check before it holds and one to three of its bytes are there
--- (paper 01, "Judging a place"). The fields by their offsets: version, total length; platform, frame number and time; object count, record count; subframe; those of the record at p
+-- the bytes end inside a four-byte field, by the profile's tests; the paper's own words are `EndsInField`.
+-- The fields by their offsets: version, total length; platform, frame number and time; object count, record count; subframe; those of the record at p
 pub data EndsInside (P : Profile) (bs : List ℕ) : Type 0 where
   in-version : take 8 bs ≡ magic → Cut 8 bs → EndsInside P bs
   in-total : take 8 bs ≡ magic → Cut 12 bs → EndsInside P bs

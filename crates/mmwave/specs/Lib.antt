@@ -1,6 +1,6 @@
 pub mod Profile
 pub mod Packet
-pub mod Walk
+pub mod Internal
 pub mod MmWave
 pub mod Document
 pub mod Paper

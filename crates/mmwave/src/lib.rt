@@ -5,10 +5,11 @@ ghost use Prim.Native.Nat.{_+_, _-_, _*_, _≤_, _<_};
 ghost use lib.ListN.{length, take};
 ghost use Rattle.digits.specs.LittleEndian.{littleAt};
 ghost use Rattle.form.specs.Form.{judge as Form·judge, judgeAt};
+ghost use Rattle.form.specs.Numbers.{Judges};
 ghost use Rattle.form.specs.Pieces.{four, marker};
 ghost use Rattle.mmwave.specs.Profile.{legal, lengthOk, typeOk};
 ghost use Rattle.mmwave.specs.Packet.{magic, entry, last, records, counted, packet};
-ghost use Rattle.mmwave.specs.Walk.{settled};
+ghost use Rattle.mmwave.specs.Internal.{settled};
 ghost use Rattle.mmwave.specs.MmWave.{mmWave, perObject};
 use form::Judgement;
 
@@ -123,10 +124,10 @@ fn per_object(size: u8, objects: u32) -> Rule
 }
 
 // The payload lengths of a record's type.
-fn rule_of(kind: u32, objects: u32) -> Rule
-    ensures { λ r. ⌜ r ≡ mmWave .rule kind objects ⌝ }
+fn rule_of(tag: u32, objects: u32) -> Rule
+    ensures { λ r. ⌜ r ≡ mmWave .rule tag objects ⌝ }
 {
-    match kind {
+    match tag {
         1 => per_object(16, objects),
         2 => Rule::Even,
         3 => Rule::Even,
@@ -242,11 +243,11 @@ fn type_at(s: &[u8], at: usize, objects: u32, k: u32, room: u64) -> Judgement
     ensures { λ r. ⌜ r ≡ judgeAt (four 23 (typeOk mmWave objects k room)) at (now (s .entry)) ⌝ }
 {
     let a = form::number(s, at);
-    let Judgement::Whole(kind, e) = a else {
+    let Judgement::Whole(tag, e) = a else {
         return a;
     };
-    if some_length_fits(k, room, rule_of(kind, objects)) {
-        return Judgement::Whole(kind, e);
+    if some_length_fits(k, room, rule_of(tag, objects)) {
+        return Judgement::Whole(tag, e);
     }
     Judgement::Bad(BAD_TYPE)
 }
@@ -270,10 +271,10 @@ fn record_at(s: &[u8], at: usize, objects: u32, k: u32, room: u64) -> Judgement
     ensures { λ r. ⌜ r ≡ judgeAt (entry mmWave objects k room) at (now (s .entry)) ⌝ }
 {
     let a = type_at(s, at, objects, k, room);
-    let Judgement::Whole(kind, i) = a else {
+    let Judgement::Whole(tag, i) = a else {
         return a;
     };
-    let rule = rule_of(kind, objects);
+    let rule = rule_of(tag, objects);
     let b = length_at(s, i, rule, k, room);
     let Judgement::Whole(m, j) = b else {
         return b;
@@ -487,7 +488,7 @@ fn judge_header(s: &[u8]) -> Judgement
 
 // The judgement of the bytes as a packet from their first on: kind 16 with its length, a reason from 20 to 24, or waiting.
 pub fn judge(bytes: &[u8]) -> Judgement
-    ensures { λ r. ⌜ r ≡ Form·judge (packet mmWave) 0 (now (bytes .entry)) ⌝ }
+    ensures { λ r. ⌜ Judges (packet mmWave) 0 (now (bytes .entry)) r ⌝ }
 {
     if bytes.len() < Header::SIZE {
         return judge_pieces(bytes);

@@ -1,5 +1,6 @@
 pub mod Equations
 pub mod Prefix
+pub mod Resuming
 pub mod Rows
 pub mod LeftmostLaws
 pub mod CourseLaws

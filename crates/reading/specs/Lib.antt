@@ -1,5 +1,7 @@
 pub mod Reading
 pub mod Answers
+pub mod Resuming
+pub mod Internal
 pub mod Leftmost
 pub mod Course
 pub mod Begins

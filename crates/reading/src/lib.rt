@@ -17,11 +17,12 @@ pub const STATE_FULL: u32 = 1;
 
 pub const STATE_END: u32 = 2;
 
-// What a reading answers: the refusal number (0: none), how many rows it wrote, the skipped bytes, the offset where it stopped, and why.
+// What a reading answers: the refusal number (0: none), why it stopped, how many rows it wrote, the skipped bytes, and the offset where it stopped.
+#[repr(C)]
 pub struct Answer {
     pub refusal: u32,
+    pub state: u32,
     pub rows: usize,
     pub skipped: usize,
     pub next: usize,
-    pub state: u32,
 }

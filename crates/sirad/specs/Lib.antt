@@ -3,4 +3,4 @@ pub mod Rows
 pub mod Sirad
 pub mod Table
 pub mod Edges
-pub mod Steps
+pub mod Internal

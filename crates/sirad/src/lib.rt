@@ -7,12 +7,13 @@ ghost use Prim.Native.Nat.{_+_, _≤_, _<_};
 ghost use lib.ListN.{length};
 ghost use Rattle.digits.specs.Bytes.{within, isHex};
 ghost use Rattle.digits.specs.Hex.{digit};
-ghost use Rattle.form.specs.Form.{judge as Form·judge, judgeAt};
+ghost use Rattle.form.specs.Form.{judgeAt};
+ghost use Rattle.form.specs.Numbers.{Judges};
 ghost use Rattle.form.specs.Pieces.{one};
 ghost use Rattle.sirad.specs.Classes.{accepts, reason};
 ghost use Rattle.sirad.specs.Rows.{ending, blocks, tPieces, uPieces, ePieces};
 ghost use Rattle.sirad.specs.Sirad.{row, run, number, block, head, sized, kindOf, sirad};
-ghost use Rattle.sirad.specs.Steps.{StepOf};
+ghost use Rattle.sirad.specs.Internal.{StepOf};
 
 // The byte that starts every frame and stands nowhere else in one.
 pub const START_MARKER: u8 = b'!';
@@ -428,7 +429,7 @@ fn kind_of(b: u8) -> Kind
 // The judgement of the bytes from their first on. `judge(b"!E0000\r\n")` is Whole(6, 8), `judge(b"!E00")` is Waiting, `judge(b"!e")` is Bad(11).
 // At an offset: `judge(&bytes[at..])`.
 pub fn judge(bytes: &[u8]) -> Judgement
-    ensures { λ r. ⌜ r ≡ Form·judge sirad 0 (now (bytes .entry)) ⌝ }
+    ensures { λ r. ⌜ Judges sirad 0 (now (bytes .entry)) r ⌝ }
 {
     if bytes.len() < 1 {
         return Judgement::Waiting;

@@ -7,7 +7,7 @@ use crate::numbers::millimetres;
 use crate::reading::{self, closed_reading, open_reading};
 use crate::refusal::Refusal;
 
-/// `struct vq_judgement`: state 0 whole, 1 bad, 2 waiting; on a refusal all others 0.
+/// `struct vq_judgement`: state 1 whole, 2 bad, 3 waiting; on a refusal all others 0, the state too.
 #[repr(C)]
 #[derive(Clone, Copy, Debug, Default, PartialEq, Eq)]
 #[allow(missing_docs)]
@@ -40,12 +40,12 @@ pub struct Reading {
     pub next: u64,
 }
 
-/// State 0 of a judgement.
-pub const WHOLE: u32 = 0;
 /// State 1 of a judgement.
-pub const BAD: u32 = 1;
+pub const WHOLE: u32 = 1;
 /// State 2 of a judgement.
-pub const WAITING: u32 = 2;
+pub const BAD: u32 = 2;
+/// State 3 of a judgement.
+pub const WAITING: u32 = 3;
 
 impl From<Result<judgement::Judgement, Refusal>> for Judgement {
     fn from(answer: Result<judgement::Judgement, Refusal>) -> Judgement {

@@ -352,6 +352,31 @@ pub fn compare_splits(subject: &dyn Subject, first_seed: u64, captures: u64) -> 
     Ok(splits)
 }
 
+/// The open reading goes on where A's stopped: A's rows, then the rows of the bytes from its next place on, shifted.
+fn check_goes_on(
+    subject: &dyn Subject,
+    dialect: u32,
+    bytes: &[u8],
+    (first, first_rows): (Reading, &[u32]),
+    numbers: usize,
+) -> Result<(), String> {
+    let (rest, rest_table) = read(subject, dialect, &bytes[first.next as usize..], numbers, false);
+    let (all, all_table) = read(subject, dialect, bytes, first_rows.len() + numbers, false);
+    let joined = Reading {
+        rows: first.rows + rest.rows,
+        skipped: first.skipped + rest.skipped,
+        next: first.next + rest.next,
+        ..rest
+    };
+    let shifted = rest_table[..ROW * rest.rows as usize].chunks(ROW);
+    let shifted = shifted.flat_map(|row| [row[0] + first.next as u32, row[1], row[2]]);
+    let rows: Vec<u32> = first_rows.iter().copied().chain(shifted).collect();
+    if all != joined || all_table[..rows.len()] != rows {
+        return Err(format!("a table of {numbers}: {first:?}, then {rest:?} from there on, but {all:?} in one reading"));
+    }
+    Ok(())
+}
+
 /// Demand 3 for the first `end` bytes as A and the rest as B.
 pub fn check_split(subject: &dyn Subject, dialect: u32, bytes: &[u8], end: usize) -> Result<(), String> {
     let sooner = &bytes[..end];
@@ -368,6 +393,7 @@ pub fn check_split(subject: &dyn Subject, dialect: u32, bytes: &[u8], end: usize
         if first.state == TABLE_FULL && (first != second || first_table != second_table) {
             return Err(format!("a full table of {numbers}, and the answers differ: {first:?}, {second:?}"));
         }
+        check_goes_on(subject, dialect, bytes, (first, &first_table[..written]), numbers)?;
     }
     for place in 0..=end {
         let first = check_judgement(subject, dialect, sooner, place)?;

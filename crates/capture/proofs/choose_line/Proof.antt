@@ -1,8 +1,8 @@
--- `capture::choose_line` meets its contract. The chosen part lies in its line.
+-- `capture::choose_line` meets its contract. The chosen part lies in the line that `line_of` hands back, and the answer is that part of it.
+use mathlib.Core.Path.{refl}
 use native.Mathlib.Omega.{arith}
 use borrow.Author.Needs.{needs}
-use Rattle.digits.proofs.Choices.{either}
-use Rattle.capture.proofs.LineLaws.{ends-in-either, ends-in-standby, ends-in-main, is-standby, is-main}
+use Rattle.capture.proofs.LineLaws.{ends-in, refers}
 use Rattle.capture.specs.Dialects.{dialectOf}
 use Rattle.capture.proofs.choose_line.Statement.{statement}
 use Rattle.capture.proofs.choose_line.Tie as tie
@@ -10,8 +10,13 @@ use Rattle.capture.proofs.choose_line.Tie as tie
 choose-part-requires : tie.Need-choose-part-requires
 choose-part-requires c κs = search needs
 
+line-of-requires : tie.Need-line-of-requires
+line-of-requires c κs = search needs
+
 add-to : tie.Need-add-to
-add-to c = let a = c .before .before .before .before .args in either (ends-in-either (dialectOf (a .dialect)) (a .main .now) (a .standby .now) _ (c .before .choose-part .ensures)) (λ h. omega arith) (λ h. omega arith)
+add-to c =
+    let line = c .before in let part = line .before in let a = part .before .before .before .args in
+    omega (arith, ends-in (dialectOf (a .dialect)) (a .main) (a .standby) _ _ (part .choose-part .ensures) (line .line-of .ensures))
 
 sub-result : tie.Need-sub-result
 sub-result c = search needs
@@ -20,34 +25,16 @@ part-result-start : tie.Need-part-result-start
 part-result-start c = search needs
 
 part-result-end : tie.Need-part-result-end
-part-result-end c = let a = c .before .before .before .before .before .args in ends-in-standby (dialectOf (a .dialect)) (a .main .now) (a .standby .now) _ (c .before .before .choose-part .ensures) (c .if1 .taken)
+part-result-end c =
+    let line = c .before in let part = line .before in let a = part .before .before .before .args in
+    ends-in (dialectOf (a .dialect)) (a .main) (a .standby) _ _ (part .choose-part .ensures) (line .line-of .ensures)
 
 returns : tie.Need-returns
-returns c = let a = c .before .before .before .before .before .before .args in is-standby (dialectOf (a .dialect)) (a .main .now) (a .standby .now) _ (c .before .before .before .choose-part .ensures) (c .before .if1 .taken)
-
-sub-result-2 : tie.Need-sub-result-2
-sub-result-2 c = search needs
-
-part-result-start-2 : tie.Need-part-result-start-2
-part-result-start-2 c = search needs
-
-part-result-end-2 : tie.Need-part-result-end-2
-part-result-end-2 c = let a = c .before .before .before .before .before .args in ends-in-main (dialectOf (a .dialect)) (a .main .now) (a .standby .now) _ (c .before .before .choose-part .ensures) (c .if1 .left)
-
-returns-2 : tie.Need-returns-2
-returns-2 c = let a = c .before .before .before .before .before .before .args in is-main (dialectOf (a .dialect)) (a .main .now) (a .standby .now) _ (c .before .before .before .choose-part .ensures) (c .before .if1 .left)
+returns c =
+    let line = c .before .before in let part = line .before in let a = part .before .before .before .args in
+    refers (dialectOf (a .dialect)) (a .main) (a .standby) _ _ (part .choose-part .ensures) (line .line-of .ensures) _ refl refl refl
 
 pub choose-line-spec : {M : Type 1} → statement M
 choose-line-spec =
     tie.close
-    (tie.spec
-    choose-part-requires
-    add-to
-    sub-result
-    part-result-start
-    part-result-end
-    returns
-    sub-result-2
-    part-result-start-2
-    part-result-end-2
-    returns-2)
+    (tie.spec choose-part-requires line-of-requires add-to sub-result part-result-start part-result-end returns)

@@ -3,7 +3,7 @@ use borrow.Author.Needs.{needs}
 use native.Mathlib.Omega.{arith}
 use Prim.Native.Nat.{_≤_, _-_}
 use lib.ListN.{length}
-use Rattle.capture.specs.Scan.{Clear}
+use Rattle.capture.specs.Internal.{Clear}
 use Rattle.capture.proofs.Laws.{clear-join}
 use Rattle.capture.proofs.find.Statement.{statement}
 use Rattle.capture.proofs.find.Tie as tie

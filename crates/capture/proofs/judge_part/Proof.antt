@@ -18,11 +18,11 @@ judge-requires-2 c κs = search needs
 
 returns : tie.Need-returns
 unfolding formOf
-returns c = rw (c .before .enum-told .given .1) (c .judge .ensures)
+returns c = rw (c .before .enum-told .given .1) (c .judge .ensures .answers)
 
 returns-2 : tie.Need-returns-2
 unfolding formOf
-returns-2 c = rw (c .before .enum-told2 .given .1) (c .judge2 .ensures)
+returns-2 c = rw (c .before .enum-told2 .given .1) (c .judge2 .ensures .answers)
 
 pub judge-part-spec : {M : Type 1} → statement M
 judge-part-spec =

@@ -6,7 +6,7 @@ use native.Mathlib.Omega.{arith}
 use native.Mathlib.Nat.{add-zero}
 use mathlib.Core.Bool.{true}
 use Rattle.capture.proofs.Laws.{misses-next, clear-none}
-use Rattle.capture.specs.Scan.{Clear}
+use Rattle.capture.specs.Internal.{Clear}
 use Rattle.capture.proofs.misses.Statement.{statement}
 use Rattle.capture.proofs.misses.Tie as tie
 

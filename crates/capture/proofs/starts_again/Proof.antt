@@ -6,7 +6,7 @@ use borrow.Author.Needs.{needs}
 use borrow.Author.Tests.{eqb-true}
 use native.Mathlib.Omega.{arith}
 use Rattle.digits.proofs.Choices.{both-ways}
-use Rattle.capture.specs.Scan.{Again}
+use Rattle.capture.specs.Internal.{Again}
 use Rattle.capture.proofs.starts_again.Statement.{statement}
 use Rattle.capture.proofs.starts_again.Tie as tie
 

@@ -2,18 +2,18 @@
 use borrow.Author.Needs.{needs}
 use native.Mathlib.Omega.{arith}
 use Rattle.form.specs.Pieces.{any}
-use Rattle.form.proofs.Laws.{four-waits, number-there}
+use Rattle.form.proofs.Laws.{judges, four-waits, number-there}
 use Rattle.form.proofs.number.Statement.{statement}
 use Rattle.form.proofs.number.Tie as tie
 
 returns : tie.Need-returns
-returns c = four-waits 0 any _ _ (omega arith)
+returns c = judges (four-waits 0 any _ _ (omega arith))
 
 sub-if2 : tie.Need-sub-if2
 sub-if2 c = search needs
 
 returns-2 : tie.Need-returns-2
-returns-2 c = four-waits 0 any _ _ (omega arith)
+returns-2 c = judges (four-waits 0 any _ _ (omega arith))
 
 shared-slice-read-join : tie.Need-shared-slice-read-join
 shared-slice-read-join c = search needs
@@ -43,7 +43,7 @@ add-end : tie.Need-add-end
 add-end c = search needs
 
 returns-3 : tie.Need-returns-3
-returns-3 c = number-there _ _ (omega arith) (c .join .ensures)
+returns-3 c = judges (number-there _ _ (omega arith) (c .join .ensures))
 
 pub number-spec : {M : Type 1} → statement M
 number-spec =

@@ -1,6 +1,6 @@
 -- `gateway::vq_judge` meets its contract: the numbers are those of the verdict, by its case.
 use mathlib.Core.Path.{sym, ap, _∙_}
-use Rattle.gateway.specs.Numbers.{verdictNumbers}
+use Rattle.capture.specs.Entries.{verdictNumbers}
 use borrow.Author.Needs.{needs}
 use Rattle.gateway.proofs.vq_judge.Statement.{statement}
 use Rattle.gateway.proofs.vq_judge.Tie as tie
@@ -14,14 +14,14 @@ enum-known-number c = search needs
 enum-known-j : tie.Need-enum-known-j
 enum-known-j c = search needs
 
-judgement-numbers-requires : tie.Need-judgement-numbers-requires
-judgement-numbers-requires c κs = search needs
+numbers-of-requires : tie.Need-numbers-of-requires
+numbers-of-requires c κs = search needs
 
 returns : tie.Need-returns
 returns c = ap verdictNumbers (sym (c .before .number .given .1) ∙ c .before .before .before .judge-at .ensures .answers)
 
 returns-2 : tie.Need-returns-2
-returns-2 c = c .judgement-numbers .ensures ∙ ap verdictNumbers (sym (c .before .before .j .given .1) ∙ c .before .before .before .before .judge-at .ensures .answers)
+returns-2 c = c .numbers-of .ensures ∙ ap verdictNumbers (sym (c .before .before .j .given .1) ∙ c .before .before .before .before .judge-at .ensures .answers)
 
 pub vq-judge-spec : {M : Type 1} → statement M
 vq-judge-spec =
@@ -30,6 +30,6 @@ vq-judge-spec =
     judge-at-requires
     enum-known-number
     enum-known-j
-    judgement-numbers-requires
+    numbers-of-requires
     returns
     returns-2)

@@ -18,7 +18,7 @@ enum-known-a c = search needs
 
 returns : tie.Need-returns
 unfolding counted
-returns c = halt _ _ _ _ (c .before .skip-numbers .ensures) (c .match .keys2)
+returns c = halt _ _ _ _ (c .before .skip-numbers .ensures .answers) (c .match .keys2)
 
 number-requires : tie.Need-number-requires
 number-requires c κs = search needs
@@ -28,8 +28,8 @@ enum-known-b c = search needs
 
 returns-2 : tie.Need-returns-2
 unfolding counted
-returns-2 c = halt _ _ _ _ (c .before .number .ensures) (c .match2 .keys2)
-    ∙ sym (go-on _ _ _ _ (c .before .before .before .before .before .skip-numbers .ensures) (c .before .before .before .a .given .1))
+returns-2 c = halt _ _ _ _ (c .before .number .ensures .answers) (c .match2 .keys2)
+    ∙ sym (go-on _ _ _ _ (c .before .before .before .before .before .skip-numbers .ensures .answers) (c .before .before .before .a .given .1))
 
 count-at-requires : tie.Need-count-at-requires
 count-at-requires c κs = search needs
@@ -40,8 +40,8 @@ enum-known-d c = search needs
 returns-3 : tie.Need-returns-3
 unfolding counted
 returns-3 c = halt _ _ _ _ (c .before .count-at .ensures) (c .match3 .keys2)
-    ∙ sym (go-on _ _ _ _ (c .before .before .before .before .before .number .ensures) (c .before .before .before .b .given .1))
-    ∙ sym (go-on _ _ _ _ (c .before .before .before .before .before .before .before .before .before .skip-numbers .ensures) (c .before .before .before .before .before .before .before .a .given .1))
+    ∙ sym (go-on _ _ _ _ (c .before .before .before .before .before .number .ensures .answers) (c .before .before .before .b .given .1))
+    ∙ sym (go-on _ _ _ _ (c .before .before .before .before .before .before .before .before .before .skip-numbers .ensures .answers) (c .before .before .before .before .before .before .before .a .given .1))
 
 skip-numbers-requires-2 : tie.Need-skip-numbers-requires-2
 skip-numbers-requires-2 c κs = search needs
@@ -51,10 +51,10 @@ enum-known-f c = search needs
 
 returns-4 : tie.Need-returns-4
 unfolding counted
-returns-4 c = halt _ _ _ _ (c .before .skip-numbers2 .ensures) (c .match4 .keys2)
+returns-4 c = halt _ _ _ _ (c .before .skip-numbers2 .ensures .answers) (c .match4 .keys2)
     ∙ sym (go-on _ _ _ _ (c .before .before .before .before .before .count-at .ensures) (c .before .before .before .d .given .1))
-    ∙ sym (go-on _ _ _ _ (c .before .before .before .before .before .before .before .before .before .number .ensures) (c .before .before .before .before .before .before .before .b .given .1))
-    ∙ sym (go-on _ _ _ _ (c .before .before .before .before .before .before .before .before .before .before .before .before .before .skip-numbers .ensures) (c .before .before .before .before .before .before .before .before .before .before .before .a .given .1))
+    ∙ sym (go-on _ _ _ _ (c .before .before .before .before .before .before .before .before .before .number .ensures .answers) (c .before .before .before .before .before .before .before .b .given .1))
+    ∙ sym (go-on _ _ _ _ (c .before .before .before .before .before .before .before .before .before .before .before .before .before .skip-numbers .ensures .answers) (c .before .before .before .before .before .before .before .before .before .before .before .a .given .1))
 
 cast-used : tie.Need-cast-used
 cast-used c = search needs
@@ -74,10 +74,10 @@ walk-requires c κs = search needs
 returns-5 : tie.Need-returns-5
 unfolding counted
 returns-5 c = c .walk .ensures
-    ∙ sym (go-on _ _ _ _ (c .before .before .before .before .skip-numbers2 .ensures) (c .before .before .f .given .1))
+    ∙ sym (go-on _ _ _ _ (c .before .before .before .before .skip-numbers2 .ensures .answers) (c .before .before .f .given .1))
     ∙ sym (go-on _ _ _ _ (c .before .before .before .before .before .before .before .before .count-at .ensures) (c .before .before .before .before .before .before .d .given .1))
-    ∙ sym (go-on _ _ _ _ (c .before .before .before .before .before .before .before .before .before .before .before .before .number .ensures) (c .before .before .before .before .before .before .before .before .before .before .b .given .1))
-    ∙ sym (go-on _ _ _ _ (c .before .before .before .before .before .before .before .before .before .before .before .before .before .before .before .before .skip-numbers .ensures) (c .before .before .before .before .before .before .before .before .before .before .before .before .before .before .a .given .1))
+    ∙ sym (go-on _ _ _ _ (c .before .before .before .before .before .before .before .before .before .before .before .before .number .ensures .answers) (c .before .before .before .before .before .before .before .before .before .before .b .given .1))
+    ∙ sym (go-on _ _ _ _ (c .before .before .before .before .before .before .before .before .before .before .before .before .before .before .before .before .skip-numbers .ensures .answers) (c .before .before .before .before .before .before .before .before .before .before .before .before .before .before .a .given .1))
 
 pub behind-total-spec : {M : Type 1} → statement M
 behind-total-spec =

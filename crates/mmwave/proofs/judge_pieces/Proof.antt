@@ -25,7 +25,7 @@ enum-known-b c = search needs
 
 returns-2 : tie.Need-returns-2
 unfolding packet
-returns-2 c = halt _ _ _ _ (c .before .skip-numbers .ensures) (c .match2 .keys2)
+returns-2 c = halt _ _ _ _ (c .before .skip-numbers .ensures .answers) (c .match2 .keys2)
     ∙ sym (go-on _ _ _ _ (c .before .before .before .before .before .magic-at .ensures) (c .before .before .before .a .given .1))
 
 total-at-requires : tie.Need-total-at-requires
@@ -37,7 +37,7 @@ enum-known-d c = search needs
 returns-3 : tie.Need-returns-3
 unfolding packet
 returns-3 c = halt _ _ _ _ (c .before .total-at .ensures) (c .match3 .keys2)
-    ∙ sym (go-on _ _ _ _ (c .before .before .before .before .before .skip-numbers .ensures) (c .before .before .before .b .given .1))
+    ∙ sym (go-on _ _ _ _ (c .before .before .before .before .before .skip-numbers .ensures .answers) (c .before .before .before .b .given .1))
     ∙ sym (go-on _ _ _ _ (c .before .before .before .before .before .before .before .before .before .magic-at .ensures) (c .before .before .before .before .before .before .before .a .given .1))
 
 behind-total-requires : tie.Need-behind-total-requires
@@ -47,7 +47,7 @@ returns-4 : tie.Need-returns-4
 unfolding packet
 returns-4 c = c .behind-total .ensures
     ∙ sym (go-on _ _ _ _ (c .before .before .before .before .total-at .ensures) (c .before .before .d .given .1))
-    ∙ sym (go-on _ _ _ _ (c .before .before .before .before .before .before .before .before .skip-numbers .ensures) (c .before .before .before .before .before .before .b .given .1))
+    ∙ sym (go-on _ _ _ _ (c .before .before .before .before .before .before .before .before .skip-numbers .ensures .answers) (c .before .before .before .before .before .before .b .given .1))
     ∙ sym (go-on _ _ _ _ (c .before .before .before .before .before .before .before .before .before .before .before .before .magic-at .ensures) (c .before .before .before .before .before .before .before .before .before .before .a .given .1))
 
 pub judge-pieces-spec : {M : Type 1} → statement M

@@ -43,13 +43,13 @@ enum-known-d c = search needs
 
 returns-3 : tie.Need-returns-3
 unfolding entry
-returns-3 c = halt _ _ _ _ (c .before .skip .ensures) (c .match3 .keys2)
+returns-3 c = halt _ _ _ _ (c .before .skip .ensures .answers) (c .match3 .keys2)
     ∙ sym (go-on _ _ _ _ (length-by mmWave _ _ _ _ _ _ (c .before .before .before .before .before .before .rule-of .ensures) (c .before .before .before .before .before .length-at .ensures)) (c .before .before .before .b .given .1))
     ∙ sym (go-on _ _ _ _ (c .before .before .before .before .before .before .before .before .before .before .type-at .ensures) (c .before .before .before .before .before .before .before .before .a .given .1))
 
 returns-4 : tie.Need-returns-4
 unfolding entry
-returns-4 c = whole-there _ _ _ ∙ sym (go-on _ _ _ _ (c .before .before .before .skip .ensures) (c .before .d .given .1))
+returns-4 c = whole-there _ _ _ ∙ sym (go-on _ _ _ _ (c .before .before .before .skip .ensures .answers) (c .before .d .given .1))
     ∙ sym (go-on _ _ _ _ (length-by mmWave _ _ _ _ _ _ (c .before .before .before .before .before .before .before .before .rule-of .ensures) (c .before .before .before .before .before .before .before .length-at .ensures)) (c .before .before .before .before .before .b .given .1))
     ∙ sym (go-on _ _ _ _ (c .before .before .before .before .before .before .before .before .before .before .before .before .type-at .ensures) (c .before .before .before .before .before .before .before .before .before .before .a .given .1))
 

@@ -15,7 +15,7 @@ enum-known-a : tie.Need-enum-known-a
 enum-known-a c = search needs
 
 returns : tie.Need-returns
-returns c = unread 23 _ _ _ (c .before .number .ensures) (c .match .keys2)
+returns c = unread 23 _ _ _ (c .before .number .ensures .answers) (c .match .keys2)
 
 rule-of-requires : tie.Need-rule-of-requires
 rule-of-requires c κs = search needs
@@ -24,10 +24,10 @@ some-length-fits-requires : tie.Need-some-length-fits-requires
 some-length-fits-requires c κs = search needs
 
 returns-2 : tie.Need-returns-2
-returns-2 c = taken 23 _ _ _ (c .before .before .before .before .before .before .number .ensures) (c .before .before .before .before .a .given .1) (sym (type-test mmWave _ _ _ _ (c .before .before .rule-of .ensures) (c .before .some-length-fits .ensures)) ∙ c .if1 .taken)
+returns-2 c = taken 23 _ _ _ (c .before .before .before .before .before .before .number .ensures .answers) (c .before .before .before .before .a .given .1) (sym (type-test mmWave _ _ _ _ (c .before .before .rule-of .ensures) (c .before .some-length-fits .ensures)) ∙ c .if1 .taken)
 
 returns-3 : tie.Need-returns-3
-returns-3 c = refused 23 _ _ _ (c .before .before .before .before .before .before .number .ensures) (c .before .before .before .before .a .given .1) (sym (type-test mmWave _ _ _ _ (c .before .before .rule-of .ensures) (c .before .some-length-fits .ensures)) ∙ c .if1 .left)
+returns-3 c = refused 23 _ _ _ (c .before .before .before .before .before .before .number .ensures .answers) (c .before .before .before .before .a .given .1) (sym (type-test mmWave _ _ _ _ (c .before .before .rule-of .ensures) (c .before .some-length-fits .ensures)) ∙ c .if1 .left)
 
 pub type-at-spec : {M : Type 1} → statement M
 type-at-spec =

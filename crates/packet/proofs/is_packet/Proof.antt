@@ -11,10 +11,10 @@ enum-known-length : tie.Need-enum-known-length
 enum-known-length c = search needs
 
 returns : tie.Need-returns
-returns c = not-whole _ (c .before .judge .ensures) (c .match .keys2)
+returns c = not-whole _ (c .before .judge .ensures .answers) (c .match .keys2)
 
 returns-2 : tie.Need-returns-2
-returns-2 c = whole-length _ (c .before .before .before .judge .ensures) (c .before .length .given .1)
+returns-2 c = whole-length _ (c .before .before .before .judge .ensures .answers) (c .before .length .given .1)
 
 pub is-packet-spec : {M : Type 1} → statement M
 is-packet-spec = tie.close (tie.spec judge-requires enum-known-length returns returns-2)

@@ -1,22 +1,23 @@
 -- `sirad::judge` meets its contract. Start marker, identifier, then the body that it announces.
 use borrow.Author.Needs.{needs}
 use mathlib.Core.Path.{refl, sym, _∙_}
+use Rattle.form.proofs.Laws.{judges}
 use Rattle.sirad.specs.Sirad.{body}
 use Rattle.sirad.proofs.Laws.{judge-none, judge-no-start, judge-start, judge-body, judge-unknown}
 use Rattle.sirad.proofs.judge.Statement.{statement}
 use Rattle.sirad.proofs.judge.Tie as tie
 
 returns : tie.Need-returns
-returns c = judge-none _ (c .if1 .taken)
+returns c = judges (judge-none _ (c .if1 .taken))
 
 shared-slice-read-first : tie.Need-shared-slice-read-first
 shared-slice-read-first c = search needs
 
 returns-2 : tie.Need-returns-2
-returns-2 c = judge-no-start _ (c .before .before .if1 .left) (c .if2 .taken)
+returns-2 c = judges (judge-no-start _ (c .before .before .if1 .left) (c .if2 .taken))
 
 returns-3 : tie.Need-returns-3
-returns-3 c = judge-start _ (c .before .before .before .if1 .left) (c .before .if2 .left) (c .if3 .taken)
+returns-3 c = judges (judge-start _ (c .before .before .before .if1 .left) (c .before .if2 .left) (c .if3 .taken))
 
 shared-slice-read-kind-of : tie.Need-shared-slice-read-kind-of
 shared-slice-read-kind-of c = search needs
@@ -53,26 +54,26 @@ enum-told-4 c = search needs
 
 returns-4 : tie.Need-returns-4
 unfolding body
-returns-4 c = c .data-frame .ensures
-    ∙ sym (judge-body _ (c .before .before .before .before .before .before .if3 .left) (c .before .before .before .before .before .before .before .if2 .left) _ (sym (c .before .before .before .before .kind-of .ensures) ∙ c .before .before .kind .given .1) refl)
+returns-4 c = judges (c .data-frame .ensures
+    ∙ sym (judge-body _ (c .before .before .before .before .before .before .if3 .left) (c .before .before .before .before .before .before .before .if2 .left) _ (sym (c .before .before .before .before .kind-of .ensures) ∙ c .before .before .kind .given .1) refl))
 
 returns-5 : tie.Need-returns-5
 unfolding body
-returns-5 c = c .target-list .ensures
-    ∙ sym (judge-body _ (c .before .before .before .before .before .if3 .left) (c .before .before .before .before .before .before .if2 .left) _ (sym (c .before .before .before .kind-of .ensures) ∙ c .before .enum-told .given .1) refl)
+returns-5 c = judges (c .target-list .ensures
+    ∙ sym (judge-body _ (c .before .before .before .before .before .if3 .left) (c .before .before .before .before .before .before .if2 .left) _ (sym (c .before .before .before .kind-of .ensures) ∙ c .before .enum-told .given .1) refl))
 
 returns-6 : tie.Need-returns-6
 unfolding body
-returns-6 c = c .status-update .ensures
-    ∙ sym (judge-body _ (c .before .before .before .before .before .if3 .left) (c .before .before .before .before .before .before .if2 .left) _ (sym (c .before .before .before .kind-of .ensures) ∙ c .before .enum-told2 .given .1) refl)
+returns-6 c = judges (c .status-update .ensures
+    ∙ sym (judge-body _ (c .before .before .before .before .before .if3 .left) (c .before .before .before .before .before .before .if2 .left) _ (sym (c .before .before .before .kind-of .ensures) ∙ c .before .enum-told2 .given .1) refl))
 
 returns-7 : tie.Need-returns-7
 unfolding body
-returns-7 c = c .error-flags .ensures
-    ∙ sym (judge-body _ (c .before .before .before .before .before .if3 .left) (c .before .before .before .before .before .before .if2 .left) _ (sym (c .before .before .before .kind-of .ensures) ∙ c .before .enum-told3 .given .1) refl)
+returns-7 c = judges (c .error-flags .ensures
+    ∙ sym (judge-body _ (c .before .before .before .before .before .if3 .left) (c .before .before .before .before .before .before .if2 .left) _ (sym (c .before .before .before .kind-of .ensures) ∙ c .before .enum-told3 .given .1) refl))
 
 returns-8 : tie.Need-returns-8
-returns-8 c = judge-unknown _ (c .before .before .before .before .if3 .left) (c .before .before .before .before .before .if2 .left) (sym (c .before .before .kind-of .ensures) ∙ c .enum-told4 .given .1)
+returns-8 c = judges (judge-unknown _ (c .before .before .before .before .if3 .left) (c .before .before .before .before .before .if2 .left) (sym (c .before .before .kind-of .ensures) ∙ c .enum-told4 .given .1))
 
 pub judge-spec : {M : Type 1} → statement M
 judge-spec =

@@ -1,0 +1,7 @@
+-- What only the code's own contracts need; no rule of the papers is stated here.
+use Prim.Native.Nat.{ℕ, _<_, _≤_}
+
+-- how many bytes of a run are tested together: no more than are left, and some where any are left
+pub record StepOf (left r : ℕ) : Type 0 where
+  pub most : r ≤ left
+  pub some : 0 < left → 0 < r
