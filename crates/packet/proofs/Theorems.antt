@@ -1,13 +1,12 @@
--- What the readers' definitions say together: the points found once give every point, and steps from 40 give the records one by one.
+-- What the readers' definitions say together: what is found is the first record of its type, and steps from 40 give the records one by one.
 use mathlib.Core.Bool.{Bool, true, false, cond}
 use mathlib.Core.Path.{_≡_, refl, sym, ap, _∙_}
 use mathlib.Core.Logic.{_↔_}
 use mathlib.Core.List.{List}
 use Prim.Native.Nat.{ℕ, zero, suc, _+_, _-_, _*_, _<_, _≤_}
 use native.Mathlib.Omega.{arith}
-use lib.Dec.{eqb, ltb}
-use lib.ListN.{length}
-use borrow.Author.Tests.{lt-ltb, le-leb, ltb-true, eq-eqb, ne-eqb, eqb-true}
+use lib.Dec.{eqb}
+use borrow.Author.Tests.{lt-ltb, eq-eqb, ne-eqb, eqb-true}
 use Rattle.digits.proofs.Choices.{test, both-ways}
 use Rattle.mmwave.specs.MmWave.{mmWave}
 use Rattle.packet.specs.declared.Found.{Found}
@@ -15,21 +14,7 @@ use Rattle.packet.specs.declared.Found.the-variants.{At, Missing}
 use Rattle.packet.specs.declared.PacketStep.{PacketStep}
 use Rattle.packet.specs.Steps.{stepOver, cursorAfter, StepsAreRecords}
 use Rattle.packet.specs.Walk.{objectsOf, recordsOf, typeAt, lengthAt, endAt, recordAt, startsAmong, ofType, firstOfType, IsFirst}
-use Rattle.packet.specs.Fields.{isPacket, recordOf, noStep, stepShown, stepOf, pointsFound, pointFound, pointRecord, pointsOf, pointOf, pointIn}
-use Rattle.packet.proofs.Opened.{opened, packet-walks, packet-points}
-
--- -- Points
-
--- reading point i of the points found is reading point i of the packet, at every index and on every slice
-pub point-of-points : (bs : List ℕ) (i : ℕ) → pointIn bs (pointsOf mmWave bs) i ≡ pointOf mmWave bs i
-unfolding pointsOf pointOf pointIn
-point-of-points bs i = test (isPacket mmWave bs) (λ y. rw y (go y (pointRecord bs) refl)) (λ n. rw n refl)
-  where
-    go : isPacket mmWave bs ≡ true → (f : Found) → pointRecord bs ≡ f → pointIn bs (pointsFound (objectsOf bs) f) i ≡ pointFound bs (objectsOf bs) i f
-    go y Missing m = refl
-    go y (At q) a = test (ltb i (objectsOf bs))
-        (λ l. let h = packet-points bs q (opened bs refl y) a in let j = ltb-true i (objectsOf bs) l in rw (l, le-leb (q + 8 + 16 * i + 16) (length bs) (omega arith)) refl)
-        (λ l. rw l refl)
+use Rattle.packet.specs.Fields.{isPacket, recordRead, recordOf, noStep, stepShown, stepRead, stepOf}
 
 -- -- The first record of a type
 
@@ -101,7 +86,7 @@ starts-exactly bs k p at = (start-is-record bs k p at, λ r. rw (r .2) (record-s
 
 module _ (bs : List ℕ) (y : isPacket mmWave bs ≡ true) where
   step-at : (j : ℕ) → j < recordsOf bs → stepOf mmWave bs (recordAt bs j 40) ≡ stepShown bs (recordAt bs j 40)
-  unfolding stepOf
+  unfolding stepOf stepRead
   step-at j l = rw (y, record-starts bs j (recordsOf bs) 40 l) refl
 
   -- after j steps, up to the count, the cursor is at record j
@@ -112,11 +97,11 @@ module _ (bs : List ℕ) (y : isPacket mmWave bs ≡ true) where
       ap (λ (p : ℕ). stepOf mmWave bs p .next .at) (after-steps j (omega arith)) ∙ ap (λ (s : PacketStep). s .next .at) (step-at j (omega arith)) ∙ sym (record-behind bs j 40)
 
   step-each : (j : ℕ) → j < recordsOf bs → stepOf mmWave bs (cursorAfter mmWave bs j) ≡ stepOver (recordOf mmWave bs j) (cursorAfter mmWave bs (suc j))
-  unfolding recordOf
+  unfolding recordOf recordRead
   step-each j l = rw (after-steps j (omega arith), after-steps (suc j) (omega arith), step-at j l, y, lt-ltb j (recordsOf bs) l, record-behind bs j 40) refl
 
   step-end : stepOf mmWave bs (cursorAfter mmWave bs (recordsOf bs)) ≡ noStep (cursorAfter mmWave bs (recordsOf bs)) 6
-  unfolding stepOf
+  unfolding stepOf stepRead
   step-end = rw (after-steps (recordsOf bs) (omega arith), y, none-at-end bs (recordsOf bs) 40) refl
 
 -- stepping from 40 gives record 0, 1, .. K - 1, and then 6

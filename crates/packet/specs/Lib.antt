@@ -1,3 +1,4 @@
 pub mod Walk
 pub mod Fields
 pub mod Steps
+pub mod Internal

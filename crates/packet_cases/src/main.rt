@@ -5,7 +5,6 @@ use libc::STDOUT_FILENO;
 use mmwave::Header;
 use packet::Cursor;
 use packet::PacketPoint;
-use packet::PacketPoints;
 use packet::PacketRecord;
 use packet::PacketStep;
 
@@ -136,9 +135,9 @@ fn starts(s: &[u8]) {
     end_line();
 }
 
-// The points found once, each read from them and anew, and two indices over the count.
+// Where the points are, each of them, and two indices over the count.
 fn points(s: &[u8]) {
-    let found: PacketPoints = packet::points(s);
+    let found = packet::points(s);
     io::write_all(STDOUT_FILENO, b"points");
     field(found.refusal as u64);
     field(found.start as u64);
@@ -148,9 +147,6 @@ fn points(s: &[u8]) {
     let mut i: usize = 0;
     while i < MOST_LINES {
         if i < std::num::wrapping_add_usize(count, 2) {
-            io::write_all(STDOUT_FILENO, b"in");
-            field(i as u64);
-            print_point(packet::point_in(s, found, i));
             io::write_all(STDOUT_FILENO, b"point");
             field(i as u64);
             print_point(packet::point(s, i));
