@@ -59,7 +59,7 @@ fn print_record(j: usize, r: PacketRecord) {
     io::write_all(STDOUT_FILENO, b"record");
     field(j as u64);
     field(r.refusal as u64);
-    field(r.kind as u64);
+    field(r.tag as u64);
     field(r.start as u64);
     field(r.length as u64);
     end_line();
@@ -70,7 +70,7 @@ fn print_step(at: usize, step: PacketStep) {
     io::write_all(STDOUT_FILENO, b"step");
     field(at as u64);
     field(step.refusal as u64);
-    field(step.kind as u64);
+    field(step.tag as u64);
     field(step.start as u64);
     field(step.length as u64);
     field(next.at as u64);

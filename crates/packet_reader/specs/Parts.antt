@@ -17,10 +17,10 @@ unfoldable pub partOf : List ℕ → PacketRecord → List ℕ
 partOf bs r = cond (leb (r .start + r .length) (length bs)) (take (r .length) (drop (r .start) bs)) []
 
 -- record j with the part: it is the payload, and the numbers are those that `record` answers
-pub record PartShown (bs : List ℕ) (j : ℕ) (part : List ℕ) (refusal kind : ℕ) : Type 0 where
+pub record PartShown (bs : List ℕ) (j : ℕ) (part : List ℕ) (refusal tag : ℕ) : Type 0 where
   pub payload : part ≡ payloadOf mmWave bs j
   pub refused : refusal ≡ recordOf mmWave bs j .refusal
-  pub type-is : kind ≡ recordOf mmWave bs j .kind
+  pub type-is : tag ≡ recordOf mmWave bs j .tag
 
 -- a step of a reader: the cursor's answer, and the reader over the same bytes at the offset that it names, the same one with a refusal
 pub record Stepped (before : PacketReader) (answer : PacketStep) (after : PacketReader) : Type 0 where
