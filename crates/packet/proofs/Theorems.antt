@@ -19,15 +19,18 @@ use Rattle.packet.specs.Fields.{isPacket, recordRead, recordOf, noStep, 
 -- -- The first record of a type
 
 -- what is found is the first record of the type
-pub found-first : (type : ℕ) (bs : List ℕ) (k p q : ℕ) → firstOfType type bs k p ≡ At q → (j : ℕ) × IsFirst type bs k p j × (q ≡ recordAt bs j p)
+pub found-first : (type : ℕ) (bs : List ℕ) (k p q : ℕ) → firstOfType type bs k p ≡ At q
+    → (j : ℕ) × IsFirst type bs k p j × (q ≡ recordAt bs j p)
 unfolding firstOfType ofType recordAt
 found-first type bs zero p q h = let z : _≡_ {A = ℕ} 0 1 = cc in absurd (omega arith)
-found-first type bs (suc k) p q h = test (eqb (typeAt bs p) type) (λ y. here y (rw y at h)) (λ n. later n (found-first type bs k (endAt bs p) q (rw n at h)))
+found-first type bs (suc k) p q h =
+    test (eqb (typeAt bs p) type) (λ y. here y (rw y at h)) (λ n. later n (found-first type bs k (endAt bs p) q (rw n at h)))
   where
     here : eqb (typeAt bs p) type ≡ true → At p ≡ At q → (j : ℕ) × IsFirst type bs (suc k) p j × (q ≡ recordAt bs j p)
     here y e = (0, record { below = omega arith; here = eqb-true (typeAt bs p) type y; before = λ i l x. omega arith }, cc)
 
-    later : eqb (typeAt bs p) type ≡ false → ((j : ℕ) × IsFirst type bs k (endAt bs p) j × (q ≡ recordAt bs j (endAt bs p))) → (j : ℕ) × IsFirst type bs (suc k) p j × (q ≡ recordAt bs j p)
+    later : eqb (typeAt bs p) type ≡ false → ((j : ℕ) × IsFirst type bs k (endAt bs p) j × (q ≡ recordAt bs j (endAt bs p)))
+        → (j : ℕ) × IsFirst type bs (suc k) p j × (q ≡ recordAt bs j p)
     later n (j, f, e) = (suc j, record { below = let b = f .below in omega arith; here = f .here; before = not-before }, e)
       where
         not-before : (i : ℕ) → i < suc j → typeAt bs (recordAt bs i p) ≡ type → ⊥
@@ -35,10 +38,14 @@ found-first type bs (suc k) p q h = test (eqb (typeAt bs p) type) (λ y. here y 
         not-before (suc i) l x = f .before i (omega arith) x
 
 -- where none is found, no record has the type
-pub missing-none : (type : ℕ) (bs : List ℕ) (k p : ℕ) → firstOfType type bs k p ≡ Missing → (j : ℕ) → j < k → typeAt bs (recordAt bs j p) ≡ type → ⊥
+pub missing-none : (type : ℕ) (bs : List ℕ) (k p : ℕ) → firstOfType type bs k p ≡ Missing
+    → (j : ℕ) → j < k → typeAt bs (recordAt bs j p) ≡ type → ⊥
 unfolding firstOfType ofType recordAt
 missing-none type bs zero p h j l x = omega arith
-missing-none type bs (suc k) p h zero l x = let y = eq-eqb (typeAt bs p) type x in let e : At p ≡ Missing = rw y at h in let z : _≡_ {A = ℕ} 0 1 = cc in omega arith
+missing-none type bs (suc k) p h zero l x =
+    let e : At p ≡ Missing = rw (eq-eqb (typeAt bs p) type x) at h in
+    let z : _≡_ {A = ℕ} 0 1 = cc in
+    omega arith
 missing-none type bs (suc k) p h (suc j) l x = test (eqb (typeAt bs p) type)
     (λ y. let e : At p ≡ Missing = rw y at h in let z : _≡_ {A = ℕ} 0 1 = cc in omega arith)
     (λ n. missing-none type bs k (endAt bs p) (rw n at h) j (omega arith) x)
@@ -69,18 +76,21 @@ record-starts bs (suc j) (suc k) p l = let h = record-forward bs j (endAt bs p) 
 none-at-end : (bs : List ℕ) (k p : ℕ) → startsAmong bs k p (recordAt bs k p) ≡ false
 unfolding startsAmong recordAt
 none-at-end bs zero p = refl
-none-at-end bs (suc k) p = let h = record-forward bs k (endAt bs p) in rw (ne-eqb p (recordAt bs k (endAt bs p)) (λ e. omega arith)) (none-at-end bs k (endAt bs p))
+none-at-end bs (suc k) p = let h = record-forward bs k (endAt bs p) in
+    rw (ne-eqb p (recordAt bs k (endAt bs p)) (λ e. omega arith)) (none-at-end bs k (endAt bs p))
 
 -- where some record of the walk starts, it is record j for some j
 start-is-record : (bs : List ℕ) (k p at : ℕ) → startsAmong bs k p at ≡ true → (j : ℕ) × (j < k) × (at ≡ recordAt bs j p)
 unfolding startsAmong recordAt
 start-is-record bs zero p at h = let z : _≡_ {A = ℕ} 0 1 = cc in absurd (omega arith)
-start-is-record bs (suc k) p at h = test (eqb p at) (λ y. (0, omega arith, sym (eqb-true p at y))) (λ n. behind (start-is-record bs k (endAt bs p) at (rw n at h)))
+start-is-record bs (suc k) p at h =
+    test (eqb p at) (λ y. (0, omega arith, sym (eqb-true p at y))) (λ n. behind (start-is-record bs k (endAt bs p) at (rw n at h)))
   where
     behind : ((j : ℕ) × (j < k) × (at ≡ recordAt bs j (endAt bs p))) → (j : ℕ) × (j < suc k) × (at ≡ recordAt bs j p)
     behind (j, l, e) = (suc j, omega arith, e)
 
--- a record of the packet starts at an offset exactly if it is 40 or the end of an earlier record, that is the start of record j for some j below the count
+-- a record of the packet starts at an offset exactly if it is 40 or the end of an earlier record, that is the start of record j for some
+-- j below the count
 pub starts-exactly : (bs : List ℕ) (k p at : ℕ) → (startsAmong bs k p at ≡ true) ↔ ((j : ℕ) × (j < k) × (at ≡ recordAt bs j p))
 starts-exactly bs k p at = (start-is-record bs k p at, λ r. rw (r .2) (record-starts bs (r .0) k p (r .1)))
 
@@ -94,11 +104,16 @@ module _ (bs : List ℕ) (y : isPacket mmWave bs ≡ true) where
   unfolding cursorAfter recordAt
   after-steps zero l = refl
   after-steps (suc j) l =
-      ap (λ (p : ℕ). stepOf mmWave bs p .next .at) (after-steps j (omega arith)) ∙ ap (λ (s : PacketStep). s .next .at) (step-at j (omega arith)) ∙ sym (record-behind bs j 40)
+      ap (λ (p : ℕ). stepOf mmWave bs p .next .at) (after-steps j (omega arith))
+      ∙ ap (λ (s : PacketStep). s .next .at) (step-at j (omega arith))
+      ∙ sym (record-behind bs j 40)
 
-  step-each : (j : ℕ) → j < recordsOf bs → stepOf mmWave bs (cursorAfter mmWave bs j) ≡ stepOver (recordOf mmWave bs j) (cursorAfter mmWave bs (suc j))
+  step-each : (j : ℕ) → j < recordsOf bs
+      → stepOf mmWave bs (cursorAfter mmWave bs j) ≡ stepOver (recordOf mmWave bs j) (cursorAfter mmWave bs (suc j))
   unfolding recordOf recordRead
-  step-each j l = rw (after-steps j (omega arith), after-steps (suc j) (omega arith), step-at j l, y, lt-ltb j (recordsOf bs) l, record-behind bs j 40) refl
+  step-each j l =
+      rw (after-steps j (omega arith), after-steps (suc j) (omega arith), step-at j l, y, lt-ltb j (recordsOf bs) l, record-behind bs j 40)
+      refl
 
   step-end : stepOf mmWave bs (cursorAfter mmWave bs (recordsOf bs)) ≡ noStep (cursorAfter mmWave bs (recordsOf bs)) 6
   unfolding stepOf stepRead

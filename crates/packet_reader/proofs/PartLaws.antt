@@ -8,7 +8,7 @@ use borrow.Author.Tests.{le-leb, lt-leb}
 use Rattle.mmwave.specs.MmWave.{mmWave}
 use Rattle.packet.specs.Fields.{payloadOf, RecordShown}
 use Rattle.packet.specs.declared.PacketRecord.{PacketRecord}
-use Rattle.packet_reader.specs.Parts.{partOf}
+use Rattle.packet_reader.specs.Internal.{partOf}
 
 -- no such part
 pub part-none : (bs : List ℕ) (r : PacketRecord) → length bs < r .start + r .length → [] ≡ partOf bs r

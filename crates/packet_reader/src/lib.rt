@@ -3,7 +3,8 @@
 ghost use mathlib.Core.Path.{_≡_};
 ghost use Rattle.mmwave.specs.MmWave.{mmWave};
 ghost use Rattle.packet.specs.Fields.{stepOf, RecordShown};
-ghost use Rattle.packet_reader.specs.Parts.{partOf, PartShown, Stepped};
+ghost use Rattle.packet_reader.specs.Parts.{PartShown, Stepped};
+ghost use Rattle.packet_reader.specs.Internal.{partOf};
 use mmwave::Header;
 use packet::Cursor;
 use packet::PacketRecord;

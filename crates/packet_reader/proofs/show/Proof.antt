@@ -48,7 +48,7 @@ use Rattle.packet.specs.Fields.{RecordShown}
 use Rattle.packet.specs.declared.PacketRecord.{PacketRecord}
 use Rattle.packet.proofs.PacketRecord as S
 use Rattle.packet.proofs.PacketRecord.Laws as S′
-use Rattle.packet_reader.specs.Parts.{partOf}
+use Rattle.packet_reader.specs.Internal.{partOf}
 use Rattle.packet_reader.specs.declared.PacketReader.{PacketReader}
 use Rattle.packet_reader.specs.declared.RecordPart.{RecordPart}
 use Rattle.packet_reader.proofs.PartLaws.{part-is-payload}
