@@ -192,10 +192,15 @@ module _ {M : Type 1} (𝓤 : URA M) (H : Heap 𝓤) (A : Atoms 𝓤) (W : Given
   exits r y ok e f =
       qed W (‵ (R .own y (vp y ∷ [])) ∷ (‵ (flft κ q) ⊛ ‵ ftrue) ∷ ‵ Own ∷ []) ∵
       suffices ! _ (ends-at 𝓤 H A show.ended stayed (show.clauses 𝓤 H A mem run) W (((κ, tt), (q, tt), tt, (d, (n, tt)), at), tt) (P′.lowered (made r y)) (made r y) (tt, (tt, tt)) (tt, (tt, tt))) $
-      says ! (record { payload = f ∙ part-is-payload e; refused = ap (λ (x : PacketRecord). x .refusal) (e .answers); type-is = ap (λ (x : PacketRecord). x .tag) (e .answers) }) $
+      says ! (record {
+        payload = f ∙ part-is-payload e;
+        refused = ap (λ (x : PacketRecord). x .refusal) (e .answers);
+        type-is = ap (λ (x : PacketRecord). x .tag) (e .answers);
+      }) $
       move ! (1 ∷ []) $ frame ! $ nothing ! $ owned ! usize (Is usize) (uint-makes 𝓤 H A W w64) n _ (refl, nok) $ fjoin ! $ move ! (2 ∷ 0 ∷ []) $ fjoin ! $ frame ! $
       -- [what the part owns]: with the numbers' facts it is what the result owns
-      nothing ! $ owned ! u32 (Is u32) (uint-makes 𝓤 H A W w32) (r .tag) _ (refl, ok .1 .0 .fits) $ fjoin ! $ owned ! u32 (Is u32) (uint-makes 𝓤 H A W w32) (r .refusal) _ (refl, ok .0 .fits) $ fjoin ! $
+      nothing ! $ owned ! u32 (Is u32) (uint-makes 𝓤 H A W w32) (r .tag) _ (refl, ok .1 .0 .fits) $ fjoin ! $
+      owned ! u32 (Is u32) (uint-makes 𝓤 H A W w32) (r .refusal) _ (refl, ok .0 .fits) $ fjoin ! $
       move ! (1 ∷ 0 ∷ []) $ fjoin ! $ by ! (own-shut 𝓤 H A W (P.the-type α) (P′.the-laws α) (y, (r .refusal, (r .tag, tt))))
 
   -- the same at the machine value that `part_of` returned
