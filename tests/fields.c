@@ -90,12 +90,12 @@ static void put(uint8_t *at, uint32_t word)
 
 static void record(const char *what, struct vq_record r)
 {
-    printf("record %s: %" PRIu32 " %" PRIu32 " %" PRIu64 " %" PRIu64 "\n", what, r.refusal, r.type, r.start, r.length);
+    printf("record %s: %" PRIu32 " %" PRIu32 " %" PRIu64 " %" PRIu64 "\n", what, r.refusal, r.tag, r.start, r.length);
 }
 
 static void step(const char *what, struct vq_step s)
 {
-    printf("step %s: %" PRIu32 " %" PRIu32 " %" PRIu64 " %" PRIu64 " %" PRIu64 "\n", what, s.refusal, s.type, s.start, s.length, s.next);
+    printf("step %s: %" PRIu32 " %" PRIu32 " %" PRIu64 " %" PRIu64 " %" PRIu64 "\n", what, s.refusal, s.tag, s.start, s.length, s.next);
 }
 
 static void point(const char *what, struct vq_point p)

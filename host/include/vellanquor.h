@@ -255,12 +255,12 @@ struct vq_header {
 struct vq_header vq_header(const uint8_t *packet, size_t count);
 
 /*
- * Record `index` of a packet, counted from 0: its type, and the part of the packet that is its payload.
+ * Record `index` of a packet, counted from 0: its type (`tag`), and the part of the packet that is its payload.
  *   refusal  0, or 5, 6
  */
 struct vq_record {
     uint32_t refusal;
-    uint32_t type;
+    uint32_t tag;
     uint64_t start;
     uint64_t length;
 };
@@ -273,7 +273,7 @@ struct vq_record vq_record(const uint8_t *packet, size_t count, size_t index);
  */
 struct vq_step {
     uint32_t refusal;
-    uint32_t type;
+    uint32_t tag;
     uint64_t start;
     uint64_t length;
     uint64_t next;

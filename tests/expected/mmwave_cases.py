@@ -15,19 +15,19 @@ def number(data, offset):
     return int.from_bytes(data[offset:offset + 4], "little")
 
 
-def legal(kind, objects, size):
+def legal(tag, objects, size):
     """Is this payload length legal for the type?"""
-    if kind == 1:
+    if tag == 1:
         return objects != 0 and size == 16 * objects
-    if kind == 7:
+    if tag == 7:
         return objects != 0 and size == 4 * objects
-    if kind in (2, 3, 5):
+    if tag in (2, 3, 5):
         return size % 2 == 0
-    if kind in (4, 8):
+    if tag in (4, 8):
         return size % 4 == 0
-    if kind == 6:
+    if tag == 6:
         return size == 24
-    if kind == 9:
+    if tag == 9:
         return size == 28
     return True
 
@@ -46,11 +46,11 @@ def rest_can_end(place, records, total):
 
 
 @lru_cache(maxsize=None)
-def some_length(kind, objects, place, records, total):
+def some_length(tag, objects, place, records, total):
     """Does some legal length of the type, in the first of so many records, let them end well?"""
     longest = total - place - 8
     return any(
-        legal(kind, objects, size) and rest_can_end(place + 8 + size, records - 1, total)
+        legal(tag, objects, size) and rest_can_end(place + 8 + size, records - 1, total)
         for size in range(longest, -1, -1)
     )
 
@@ -73,13 +73,13 @@ def judge(data):
     for left in range(records, 0, -1):
         if len(data) < place + 4:
             return WAITING
-        kind = number(data, place)
-        if not some_length(kind, objects, place, left, total):
+        tag = number(data, place)
+        if not some_length(tag, objects, place, left, total):
             return ("bad", 23)
         if len(data) < place + 8:
             return WAITING
         size = number(data, place + 4)
-        if not legal(kind, objects, size) or not rest_can_end(place + 8 + size, left - 1, total):
+        if not legal(tag, objects, size) or not rest_can_end(place + 8 + size, left - 1, total):
             return ("bad", 24)
         place += 8 + size
         if len(data) < place:
@@ -126,8 +126,8 @@ def header(at, total, objects, records):
         put(at + 8 + 4 * i, value)
 
 
-def record(at, kind, size):
-    put(at, kind)
+def record(at, tag, size):
+    put(at, tag)
     put(at + 4, size)
 
 
@@ -171,10 +171,10 @@ def empty_records():
     return tally
 
 
-def single(tally, total, objects, records, kind, size):
+def single(tally, total, objects, records, tag, size):
     header(0, total, objects, records)
     record(48 + size, 10, total - 56 - size)
-    record(40, kind, size)
+    record(40, tag, size)
     tally.add(judge(bytes_from(0, total)))
 
 
@@ -182,20 +182,20 @@ def objects():
     tally = Tally()
     for count in (0, 1, 2, 3, 2**28, 2**28 + 1, 2**30, 2**32 - 1):
         for total in (64, 96, 128, 32768):
-            for kind in (1, 7):
+            for tag in (1, 7):
                 for records in (1, 2):
                     for size in (0, 4, 16, 17, 4 * count % 2**32, 16 * count % 2**32):
-                        single(tally, total, count, records, kind, size)
+                        single(tally, total, count, records, tag, size)
     return tally
 
 
 def types():
     tally = Tally()
     for size in range(81):
-        for kind in list(range(12)) + [255, 65542, 2**32 - 1]:
+        for tag in list(range(12)) + [255, 65542, 2**32 - 1]:
             for total in (64, 96, 128):
                 for count, records in ((0, 1), (1, 1), (2, 1), (2, 2)):
-                    single(tally, total, count, records, kind, size)
+                    single(tally, total, count, records, tag, size)
     return tally
 
 

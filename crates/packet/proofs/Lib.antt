@@ -2,3 +2,4 @@ pub mod WalkLaws
 pub mod Opened
 pub mod FieldLaws
 pub mod Theorems
+pub mod Refusals

@@ -1,13 +1,12 @@
--- What the readers' definitions say together: the points found once give every point, and steps from 40 give the records one by one.
+-- What the readers' definitions say together: what is found is the first record of its type, and steps from 40 give the records one by one.
 use mathlib.Core.Bool.{Bool, true, false, cond}
 use mathlib.Core.Path.{_≡_, refl, sym, ap, _∙_}
 use mathlib.Core.Logic.{_↔_}
 use mathlib.Core.List.{List}
 use Prim.Native.Nat.{ℕ, zero, suc, _+_, _-_, _*_, _<_, _≤_}
 use native.Mathlib.Omega.{arith}
-use lib.Dec.{eqb, ltb}
-use lib.ListN.{length}
-use borrow.Author.Tests.{lt-ltb, le-leb, ltb-true, eq-eqb, ne-eqb, eqb-true}
+use lib.Dec.{eqb}
+use borrow.Author.Tests.{lt-ltb, eq-eqb, ne-eqb, eqb-true}
 use Rattle.digits.proofs.Choices.{test, both-ways}
 use Rattle.mmwave.specs.MmWave.{mmWave}
 use Rattle.packet.specs.declared.Found.{Found}
@@ -15,34 +14,23 @@ use Rattle.packet.specs.declared.Found.the-variants.{At, Missing}
 use Rattle.packet.specs.declared.PacketStep.{PacketStep}
 use Rattle.packet.specs.Steps.{stepOver, cursorAfter, StepsAreRecords}
 use Rattle.packet.specs.Walk.{objectsOf, recordsOf, typeAt, lengthAt, endAt, recordAt, startsAmong, ofType, firstOfType, IsFirst}
-use Rattle.packet.specs.Fields.{isPacket, recordOf, noStep, stepShown, stepOf, pointsFound, pointFound, pointRecord, pointsOf, pointOf, pointIn}
-use Rattle.packet.proofs.Opened.{opened, packet-walks, packet-points}
-
--- -- Points
-
--- reading point i of the points found is reading point i of the packet, at every index and on every slice
-pub point-of-points : (bs : List ℕ) (i : ℕ) → pointIn bs (pointsOf mmWave bs) i ≡ pointOf mmWave bs i
-unfolding pointsOf pointOf pointIn
-point-of-points bs i = test (isPacket mmWave bs) (λ y. rw y (go y (pointRecord bs) refl)) (λ n. rw n refl)
-  where
-    go : isPacket mmWave bs ≡ true → (f : Found) → pointRecord bs ≡ f → pointIn bs (pointsFound (objectsOf bs) f) i ≡ pointFound bs (objectsOf bs) i f
-    go y Missing m = refl
-    go y (At q) a = test (ltb i (objectsOf bs))
-        (λ l. let h = packet-points bs q (opened bs refl y) a in let j = ltb-true i (objectsOf bs) l in rw (l, le-leb (q + 8 + 16 * i + 16) (length bs) (omega arith)) refl)
-        (λ l. rw l refl)
+use Rattle.packet.specs.Fields.{isPacket, recordRead, recordOf, noStep, stepShown, stepRead, stepOf}
 
 -- -- The first record of a type
 
 -- what is found is the first record of the type
-pub found-first : (type : ℕ) (bs : List ℕ) (k p q : ℕ) → firstOfType type bs k p ≡ At q → (j : ℕ) × IsFirst type bs k p j × (q ≡ recordAt bs j p)
+pub found-first : (type : ℕ) (bs : List ℕ) (k p q : ℕ) → firstOfType type bs k p ≡ At q
+    → (j : ℕ) × IsFirst type bs k p j × (q ≡ recordAt bs j p)
 unfolding firstOfType ofType recordAt
 found-first type bs zero p q h = let z : _≡_ {A = ℕ} 0 1 = cc in absurd (omega arith)
-found-first type bs (suc k) p q h = test (eqb (typeAt bs p) type) (λ y. here y (rw y at h)) (λ n. later n (found-first type bs k (endAt bs p) q (rw n at h)))
+found-first type bs (suc k) p q h =
+    test (eqb (typeAt bs p) type) (λ y. here y (rw y at h)) (λ n. later n (found-first type bs k (endAt bs p) q (rw n at h)))
   where
     here : eqb (typeAt bs p) type ≡ true → At p ≡ At q → (j : ℕ) × IsFirst type bs (suc k) p j × (q ≡ recordAt bs j p)
     here y e = (0, record { below = omega arith; here = eqb-true (typeAt bs p) type y; before = λ i l x. omega arith }, cc)
 
-    later : eqb (typeAt bs p) type ≡ false → ((j : ℕ) × IsFirst type bs k (endAt bs p) j × (q ≡ recordAt bs j (endAt bs p))) → (j : ℕ) × IsFirst type bs (suc k) p j × (q ≡ recordAt bs j p)
+    later : eqb (typeAt bs p) type ≡ false → ((j : ℕ) × IsFirst type bs k (endAt bs p) j × (q ≡ recordAt bs j (endAt bs p)))
+        → (j : ℕ) × IsFirst type bs (suc k) p j × (q ≡ recordAt bs j p)
     later n (j, f, e) = (suc j, record { below = let b = f .below in omega arith; here = f .here; before = not-before }, e)
       where
         not-before : (i : ℕ) → i < suc j → typeAt bs (recordAt bs i p) ≡ type → ⊥
@@ -50,10 +38,14 @@ found-first type bs (suc k) p q h = test (eqb (typeAt bs p) type) (λ y. here y 
         not-before (suc i) l x = f .before i (omega arith) x
 
 -- where none is found, no record has the type
-pub missing-none : (type : ℕ) (bs : List ℕ) (k p : ℕ) → firstOfType type bs k p ≡ Missing → (j : ℕ) → j < k → typeAt bs (recordAt bs j p) ≡ type → ⊥
+pub missing-none : (type : ℕ) (bs : List ℕ) (k p : ℕ) → firstOfType type bs k p ≡ Missing
+    → (j : ℕ) → j < k → typeAt bs (recordAt bs j p) ≡ type → ⊥
 unfolding firstOfType ofType recordAt
 missing-none type bs zero p h j l x = omega arith
-missing-none type bs (suc k) p h zero l x = let y = eq-eqb (typeAt bs p) type x in let e : At p ≡ Missing = rw y at h in let z : _≡_ {A = ℕ} 0 1 = cc in omega arith
+missing-none type bs (suc k) p h zero l x =
+    let e : At p ≡ Missing = rw (eq-eqb (typeAt bs p) type x) at h in
+    let z : _≡_ {A = ℕ} 0 1 = cc in
+    omega arith
 missing-none type bs (suc k) p h (suc j) l x = test (eqb (typeAt bs p) type)
     (λ y. let e : At p ≡ Missing = rw y at h in let z : _≡_ {A = ℕ} 0 1 = cc in omega arith)
     (λ n. missing-none type bs k (endAt bs p) (rw n at h) j (omega arith) x)
@@ -84,24 +76,27 @@ record-starts bs (suc j) (suc k) p l = let h = record-forward bs j (endAt bs p) 
 none-at-end : (bs : List ℕ) (k p : ℕ) → startsAmong bs k p (recordAt bs k p) ≡ false
 unfolding startsAmong recordAt
 none-at-end bs zero p = refl
-none-at-end bs (suc k) p = let h = record-forward bs k (endAt bs p) in rw (ne-eqb p (recordAt bs k (endAt bs p)) (λ e. omega arith)) (none-at-end bs k (endAt bs p))
+none-at-end bs (suc k) p = let h = record-forward bs k (endAt bs p) in
+    rw (ne-eqb p (recordAt bs k (endAt bs p)) (λ e. omega arith)) (none-at-end bs k (endAt bs p))
 
 -- where some record of the walk starts, it is record j for some j
 start-is-record : (bs : List ℕ) (k p at : ℕ) → startsAmong bs k p at ≡ true → (j : ℕ) × (j < k) × (at ≡ recordAt bs j p)
 unfolding startsAmong recordAt
 start-is-record bs zero p at h = let z : _≡_ {A = ℕ} 0 1 = cc in absurd (omega arith)
-start-is-record bs (suc k) p at h = test (eqb p at) (λ y. (0, omega arith, sym (eqb-true p at y))) (λ n. behind (start-is-record bs k (endAt bs p) at (rw n at h)))
+start-is-record bs (suc k) p at h =
+    test (eqb p at) (λ y. (0, omega arith, sym (eqb-true p at y))) (λ n. behind (start-is-record bs k (endAt bs p) at (rw n at h)))
   where
     behind : ((j : ℕ) × (j < k) × (at ≡ recordAt bs j (endAt bs p))) → (j : ℕ) × (j < suc k) × (at ≡ recordAt bs j p)
     behind (j, l, e) = (suc j, omega arith, e)
 
--- a record of the packet starts at an offset exactly if it is 40 or the end of an earlier record, that is the start of record j for some j below the count
+-- a record of the packet starts at an offset exactly if it is 40 or the end of an earlier record, that is the start of record j for some
+-- j below the count
 pub starts-exactly : (bs : List ℕ) (k p at : ℕ) → (startsAmong bs k p at ≡ true) ↔ ((j : ℕ) × (j < k) × (at ≡ recordAt bs j p))
 starts-exactly bs k p at = (start-is-record bs k p at, λ r. rw (r .2) (record-starts bs (r .0) k p (r .1)))
 
 module _ (bs : List ℕ) (y : isPacket mmWave bs ≡ true) where
   step-at : (j : ℕ) → j < recordsOf bs → stepOf mmWave bs (recordAt bs j 40) ≡ stepShown bs (recordAt bs j 40)
-  unfolding stepOf
+  unfolding stepOf stepRead
   step-at j l = rw (y, record-starts bs j (recordsOf bs) 40 l) refl
 
   -- after j steps, up to the count, the cursor is at record j
@@ -109,14 +104,19 @@ module _ (bs : List ℕ) (y : isPacket mmWave bs ≡ true) where
   unfolding cursorAfter recordAt
   after-steps zero l = refl
   after-steps (suc j) l =
-      ap (λ (p : ℕ). stepOf mmWave bs p .next .at) (after-steps j (omega arith)) ∙ ap (λ (s : PacketStep). s .next .at) (step-at j (omega arith)) ∙ sym (record-behind bs j 40)
+      ap (λ (p : ℕ). stepOf mmWave bs p .next .at) (after-steps j (omega arith))
+      ∙ ap (λ (s : PacketStep). s .next .at) (step-at j (omega arith))
+      ∙ sym (record-behind bs j 40)
 
-  step-each : (j : ℕ) → j < recordsOf bs → stepOf mmWave bs (cursorAfter mmWave bs j) ≡ stepOver (recordOf mmWave bs j) (cursorAfter mmWave bs (suc j))
-  unfolding recordOf
-  step-each j l = rw (after-steps j (omega arith), after-steps (suc j) (omega arith), step-at j l, y, lt-ltb j (recordsOf bs) l, record-behind bs j 40) refl
+  step-each : (j : ℕ) → j < recordsOf bs
+      → stepOf mmWave bs (cursorAfter mmWave bs j) ≡ stepOver (recordOf mmWave bs j) (cursorAfter mmWave bs (suc j))
+  unfolding recordOf recordRead
+  step-each j l =
+      rw (after-steps j (omega arith), after-steps (suc j) (omega arith), step-at j l, y, lt-ltb j (recordsOf bs) l, record-behind bs j 40)
+      refl
 
   step-end : stepOf mmWave bs (cursorAfter mmWave bs (recordsOf bs)) ≡ noStep (cursorAfter mmWave bs (recordsOf bs)) 6
-  unfolding stepOf
+  unfolding stepOf stepRead
   step-end = rw (after-steps (recordsOf bs) (omega arith), y, none-at-end bs (recordsOf bs) 40) refl
 
 -- stepping from 40 gives record 0, 1, .. K - 1, and then 6

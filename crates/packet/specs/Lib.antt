@@ -1,3 +1,5 @@
 pub mod Walk
 pub mod Fields
 pub mod Steps
+pub mod Internal
+pub mod Refusals

@@ -10,7 +10,7 @@ use Rattle.packet.specs.Fields.{recordOf, noStep, stepOf}
 
 -- the step that shows a record and leaves the cursor at this offset
 abbrev pub stepOver : PacketRecord → ℕ → PacketStep
-stepOver r at = record { refusal = r .refusal; kind = r .kind; start = r .start; length = r .length; next = record { at = at } }
+stepOver r at = record { refusal = r .refusal; tag = r .tag; start = r .start; length = r .length; next = record { at = at } }
 
 -- the cursor's offset after j steps from 40
 unfoldable pub cursorAfter : Profile → List ℕ → ℕ → ℕ

@@ -5,7 +5,6 @@ use libc::STDOUT_FILENO;
 use mmwave::Header;
 use packet::Cursor;
 use packet::PacketPoint;
-use packet::PacketPoints;
 use packet::PacketRecord;
 use packet::PacketStep;
 
@@ -60,7 +59,7 @@ fn print_record(j: usize, r: PacketRecord) {
     io::write_all(STDOUT_FILENO, b"record");
     field(j as u64);
     field(r.refusal as u64);
-    field(r.kind as u64);
+    field(r.tag as u64);
     field(r.start as u64);
     field(r.length as u64);
     end_line();
@@ -71,7 +70,7 @@ fn print_step(at: usize, step: PacketStep) {
     io::write_all(STDOUT_FILENO, b"step");
     field(at as u64);
     field(step.refusal as u64);
-    field(step.kind as u64);
+    field(step.tag as u64);
     field(step.start as u64);
     field(step.length as u64);
     field(next.at as u64);
@@ -136,9 +135,9 @@ fn starts(s: &[u8]) {
     end_line();
 }
 
-// The points found once, each read from them and anew, and two indices over the count.
+// Where the points are, each of them, and two indices over the count.
 fn points(s: &[u8]) {
-    let found: PacketPoints = packet::points(s);
+    let found = packet::points(s);
     io::write_all(STDOUT_FILENO, b"points");
     field(found.refusal as u64);
     field(found.start as u64);
@@ -148,9 +147,6 @@ fn points(s: &[u8]) {
     let mut i: usize = 0;
     while i < MOST_LINES {
         if i < std::num::wrapping_add_usize(count, 2) {
-            io::write_all(STDOUT_FILENO, b"in");
-            field(i as u64);
-            print_point(packet::point_in(s, found, i));
             io::write_all(STDOUT_FILENO, b"point");
             field(i as u64);
             print_point(packet::point(s, i));

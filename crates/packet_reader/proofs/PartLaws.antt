@@ -8,7 +8,7 @@ use borrow.Author.Tests.{le-leb, lt-leb}
 use Rattle.mmwave.specs.MmWave.{mmWave}
 use Rattle.packet.specs.Fields.{payloadOf, RecordShown}
 use Rattle.packet.specs.declared.PacketRecord.{PacketRecord}
-use Rattle.packet_reader.specs.Parts.{partOf}
+use Rattle.packet_reader.specs.Internal.{partOf}
 
 -- no such part
 pub part-none : (bs : List ℕ) (r : PacketRecord) → length bs < r .start + r .length → [] ≡ partOf bs r
@@ -16,7 +16,8 @@ unfolding partOf
 part-none bs r h = rw (lt-leb (r .start + r .length) (length bs) h) refl
 
 -- the part from start to end
-pub part-there : (bs : List ℕ) (r : PacketRecord) → r .start + r .length ≤ length bs → take (r .start + r .length - r .start) (drop (r .start) bs) ≡ partOf bs r
+pub part-there : (bs : List ℕ) (r : PacketRecord) → r .start + r .length ≤ length bs
+    → take (r .start + r .length - r .start) (drop (r .start) bs) ≡ partOf bs r
 unfolding partOf
 part-there bs r h = rw (le-leb (r .start + r .length) (length bs) h, add-sub-cancel-left (r .start) (r .length)) refl
 

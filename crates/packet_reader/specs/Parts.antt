@@ -1,28 +1,21 @@
 -- What the structs that hold the bytes promise: a reader's step, and a record with the real part of the slice (paper 01, "Fields").
-use mathlib.Core.Bool.{cond}
 use mathlib.Core.Path.{_≡_}
-use mathlib.Core.List.{List, []}
-use Prim.Native.Nat.{ℕ, _+_}
-use lib.Dec.{leb}
-use lib.ListN.{length, take, drop}
+use mathlib.Core.List.{List}
+use Prim.Native.Nat.{ℕ}
 use denote.Ref.{now}
 use Rattle.mmwave.specs.MmWave.{mmWave}
-use Rattle.packet.specs.declared.PacketRecord.{PacketRecord}
 use Rattle.packet.specs.declared.PacketStep.{PacketStep}
 use Rattle.packet.specs.Fields.{recordOf, payloadOf, stepOf}
 use Rattle.packet_reader.specs.declared.PacketReader.{PacketReader}
 
--- the part that the record names as its payload; empty where the bytes have no such part
-unfoldable pub partOf : List ℕ → PacketRecord → List ℕ
-partOf bs r = cond (leb (r .start + r .length) (length bs)) (take (r .length) (drop (r .start) bs)) []
-
--- record j with the part: it is the payload, and the numbers are those that `record` answers
-pub record PartShown (bs : List ℕ) (j : ℕ) (part : List ℕ) (refusal kind : ℕ) : Type 0 where
+-- record j with the part: it is the payload, and the numbers are those that `record` answers (paper 01, "Fields")
+pub record PartShown (bs : List ℕ) (j : ℕ) (part : List ℕ) (refusal tag : ℕ) : Type 0 where
   pub payload : part ≡ payloadOf mmWave bs j
   pub refused : refusal ≡ recordOf mmWave bs j .refusal
-  pub type-is : kind ≡ recordOf mmWave bs j .kind
+  pub type-is : tag ≡ recordOf mmWave bs j .tag
 
 -- a step of a reader: the cursor's answer, and the reader over the same bytes at the offset that it names, the same one with a refusal
+-- (paper 01, "Fields")
 pub record Stepped (before : PacketReader) (answer : PacketStep) (after : PacketReader) : Type 0 where
   pub answers : answer ≡ stepOf mmWave (now (before .bytes)) (before .at)
   pub same-bytes : after .bytes ≡ before .bytes

@@ -3,7 +3,8 @@
 ghost use mathlib.Core.Path.{_≡_};
 ghost use Rattle.mmwave.specs.MmWave.{mmWave};
 ghost use Rattle.packet.specs.Fields.{stepOf, RecordShown};
-ghost use Rattle.packet_reader.specs.Parts.{partOf, PartShown, Stepped};
+ghost use Rattle.packet_reader.specs.Parts.{PartShown, Stepped};
+ghost use Rattle.packet_reader.specs.Internal.{partOf};
 use mmwave::Header;
 use packet::Cursor;
 use packet::PacketRecord;
@@ -15,11 +16,11 @@ pub struct PacketReader<'a> {
     pub at: usize,
 }
 
-// A record's payload as the part of the slice; `refusal` is 0, or its number with an empty part and `kind` 0.
+// A record's payload as the part of the slice; `refusal` is 0, or its number with an empty part and `tag` 0.
 pub struct RecordPart<'a> {
     pub payload: &'a [u8],
     pub refusal: u32,
-    pub kind: u32,
+    pub tag: u32,
 }
 
 // -- The work, on a plain slice
@@ -84,13 +85,13 @@ pub fn step<'s, 'a>(r: &'s mut PacketReader<'a>) -> PacketStep
 
 // Record `index` of the bytes that the reader holds: its payload as the part of the slice, its type, and 5 or 6.
 pub fn show<'a>(r: PacketReader<'a>, index: usize) -> RecordPart<'a>
-    ensures { λ x. ⌜ PartShown (now (r .entry .bytes)) index (now (x .payload)) (x .refusal) (x .kind) ⌝ }
+    ensures { λ x. ⌜ PartShown (now (r .entry .bytes)) index (now (x .payload)) (x .refusal) (x .tag) ⌝ }
 {
     let shown = record_at(r.bytes, index);
     RecordPart {
         payload: part_of(r.bytes, shown),
         refusal: shown.refusal,
-        kind: shown.kind,
+        tag: shown.tag,
     }
 }
 

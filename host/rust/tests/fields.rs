@@ -228,9 +228,9 @@ fn word_with(bytes: &[u8], place: usize, change: fn(u32) -> u32) -> Vec<u8> {
 }
 
 /// Where the records of a type start.
-fn starts_of(packet: &[u8], kind: u32) -> Vec<usize> {
+fn starts_of(packet: &[u8], tag: u32) -> Vec<usize> {
     let records = (0..Reference.header(packet).records as usize).map(|index| Reference.record(packet, index));
-    records.filter(|record| record.kind == kind).map(|record| record.start as usize - 8).collect()
+    records.filter(|record| record.tag == tag).map(|record| record.start as usize - 8).collect()
 }
 
 fn refused(refusal: u32) -> Written {

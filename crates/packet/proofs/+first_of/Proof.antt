@@ -82,7 +82,10 @@ first-of-first-of-requires : (t : ℕ) → first-of-lts.Need-first-of-requires (
   or-else-reads.Asked,
   or-else-reads.Learnt,
 ) (first-of-at t) first-of.Post
-first-of-first-of-requires t c κs = (omega (arith, c .before .before .before .before .pre .0, c .before .before .if1 .left), walk-next _ _ _ (c .before .before .if1 .left) (c .behind .ensures) (c .before .before .before .before .pre .1))
+first-of-first-of-requires t c κs =
+    let entry = c .before .before .before .before in
+    let more = c .before .before .if1 .left in
+    (omega (arith, entry .pre .0, more), walk-next _ _ _ more (c .behind .ensures) (entry .pre .1))
 
 first-of-or-else-requires : (t : ℕ) → first-of-lts.Need-or-else-requires (
   of-type-reads.Asked,
@@ -106,7 +109,10 @@ first-of-returns-2 : (t : ℕ) → first-of-lts.Need-returns-2 (
   or-else-reads.Asked,
   or-else-reads.Learnt,
 ) (first-of-at t) first-of.Post
-first-of-returns-2 t c = first-more _ _ _ _ (c .before .before .before .before .if1 .left) (c .before .before .before .of-type .ensures) (c .before .before .behind .ensures) (c .before .first-of .ensures) (c .or-else .ensures)
+first-of-returns-2 t c =
+    let w = c .before .before .before in
+    first-more _ _ _ _ (w .before .if1 .left) (w .of-type .ensures) (c .before .before .behind .ensures) (c .before .first-of .ensures)
+    (c .or-else .ensures)
 
 pub +first-of-spec : {M : Type 1} → statement M
 +first-of-spec = close μ-first-of λ t. first-of-lts.spec (

@@ -51,7 +51,10 @@ place-place-requires : (t : ℕ) → place-lts.Need-place-requires (
   place-below t,
   place.Post,
 ) (place-at t) place.Post
-place-place-requires t c κs = (omega (arith, c .before .before .before .pre .0, c .before .if1 .left), to-next _ _ _ (c .before .if1 .left) (c .behind .ensures) (c .before .before .before .pre .1))
+place-place-requires t c κs =
+    let entry = c .before .before .before in
+    let more = c .before .if1 .left in
+    (omega (arith, entry .pre .0, more), to-next _ _ _ more (c .behind .ensures) (entry .pre .1))
 
 place-returns-2 : (t : ℕ) → place-lts.Need-returns-2 (
   behind-reads.Asked,

@@ -59,7 +59,10 @@ starts-starts-requires : (t : ℕ) → starts-lts.Need-starts-requires (
   starts-below t,
   starts.Post,
 ) (starts-at t) starts.Post
-starts-starts-requires t c κs = (omega (arith, c .before .before .before .before .pre .0, c .before .before .if1 .left), walk-next _ _ _ (c .before .before .if1 .left) (c .behind .ensures) (c .before .before .before .before .pre .1))
+starts-starts-requires t c κs =
+    let entry = c .before .before .before .before in
+    let more = c .before .before .if1 .left in
+    (omega (arith, entry .pre .0, more), walk-next _ _ _ more (c .behind .ensures) (entry .pre .1))
 
 starts-returns-3 : (t : ℕ) → starts-lts.Need-returns-3 (
   behind-reads.Asked,
@@ -67,7 +70,9 @@ starts-returns-3 : (t : ℕ) → starts-lts.Need-returns-3 (
   starts-below t,
   starts.Post,
 ) (starts-at t) starts.Post
-starts-returns-3 t c = later-starts _ _ _ _ (c .before .before .before .if1 .left) (c .before .before .if2 .left) (c .before .behind .ensures) (c .starts .ensures)
+starts-returns-3 t c =
+    let w = c .before .before in
+    later-starts _ _ _ _ (w .before .if1 .left) (w .if2 .left) (c .before .behind .ensures) (c .starts .ensures)
 
 pub +starts-spec : {M : Type 1} → statement M
 +starts-spec = close μ-starts λ t. starts-lts.spec (

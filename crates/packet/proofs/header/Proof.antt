@@ -1,54 +1,62 @@
--- `packet::header` meets its contract: the eight words at their offsets, or zeros with 5.
+-- `packet::header` meets its contract: the eight words of one whole packet, or zeros with 5.
+use Rattle.packet.proofs.FieldLaws.{not-whole, other-kind, other-length, one-packet, header-refused, header-read}
 use borrow.Author.Needs.{needs}
-use Rattle.packet.proofs.FieldLaws.{header-read, header-refused}
 use Rattle.packet.proofs.header.Statement.{statement}
 use Rattle.packet.proofs.header.Tie as tie
 
-is-packet-requires : tie.Need-is-packet-requires
-is-packet-requires c κs = search needs
+judge-requires : tie.Need-judge-requires
+judge-requires c κs = search needs
 
-word-at-requires : tie.Need-word-at-requires
-word-at-requires c κs = search needs
+enum-known-kind : tie.Need-enum-known-kind
+enum-known-kind c = search needs
 
-word-at-requires-2 : tie.Need-word-at-requires-2
-word-at-requires-2 c κs = search needs
-
-word-at-requires-3 : tie.Need-word-at-requires-3
-word-at-requires-3 c κs = search needs
-
-word-at-requires-4 : tie.Need-word-at-requires-4
-word-at-requires-4 c κs = search needs
-
-word-at-requires-5 : tie.Need-word-at-requires-5
-word-at-requires-5 c κs = search needs
-
-word-at-requires-6 : tie.Need-word-at-requires-6
-word-at-requires-6 c κs = search needs
-
-word-at-requires-7 : tie.Need-word-at-requires-7
-word-at-requires-7 c κs = search needs
-
-word-at-requires-8 : tie.Need-word-at-requires-8
-word-at-requires-8 c κs = search needs
+no-header-requires : tie.Need-no-header-requires
+no-header-requires c κs = search needs
 
 returns : tie.Need-returns
-returns c = header-read _ (c .before .before .before .before .before .before .before .before .before .is-packet .ensures) (c .before .before .before .before .before .before .before .before .if1 .taken) (c .before .before .before .before .before .before .before .word-at .ensures) (c .before .before .before .before .before .before .word-at2 .ensures) (c .before .before .before .before .before .word-at3 .ensures) (c .before .before .before .before .word-at4 .ensures) (c .before .before .before .word-at5 .ensures) (c .before .before .word-at6 .ensures) (c .before .word-at7 .ensures) (c .word-at8 .ensures)
+returns c =
+    let j = c .before .before .judge .ensures .answers in
+    header-refused _ (not-whole _ j (c .before .match .keys2)) (c .no-header .ensures)
+
+no-header-requires-2 : tie.Need-no-header-requires-2
+no-header-requires-2 c κs = search needs
 
 returns-2 : tie.Need-returns-2
-returns-2 c = header-refused _ (c .before .is-packet .ensures) (c .if1 .left)
+returns-2 c =
+    let w = c .before .before .before in
+    let j = w .before .before .judge .ensures .answers in
+    header-refused _ (other-kind _ j (w .kind .given .1) (c .before .if1 .taken)) (c .no-header2 .ensures)
+
+no-header-requires-3 : tie.Need-no-header-requires-3
+no-header-requires-3 c κs = search needs
+
+returns-3 : tie.Need-returns-3
+returns-3 c =
+    let w = c .before .before .before .before in
+    let j = w .before .before .judge .ensures .answers in
+    let l = other-length _ j (w .kind .given .1) (c .before .before .if1 .left) (c .before .if2 .taken) in
+    header-refused _ l (c .no-header3 .ensures)
+
+read-header-requires : tie.Need-read-header-requires
+read-header-requires c κs = search needs
+
+returns-4 : tie.Need-returns-4
+returns-4 c =
+    let w = c .before .before .before .before in
+    let j = w .before .before .judge .ensures .answers in
+    header-read _ (one-packet _ j (w .kind .given .1) (c .before .before .if1 .left) (c .before .if2 .left)) (c .read-header .ensures)
 
 pub header-spec : {M : Type 1} → statement M
 header-spec =
     tie.close
     (tie.spec
-    is-packet-requires
-    word-at-requires
-    word-at-requires-2
-    word-at-requires-3
-    word-at-requires-4
-    word-at-requires-5
-    word-at-requires-6
-    word-at-requires-7
-    word-at-requires-8
+    judge-requires
+    enum-known-kind
+    no-header-requires
     returns
-    returns-2)
+    no-header-requires-2
+    returns-2
+    no-header-requires-3
+    returns-3
+    read-header-requires
+    returns-4)

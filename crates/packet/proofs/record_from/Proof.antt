@@ -20,7 +20,9 @@ add-start : tie.Need-add-start
 add-start c = search needs
 
 returns : tie.Need-returns
-returns c = λ i. record { refusal = 0; kind = c .before .word-at .ensures i; start = c .before .before .before .args .p + 8; length = c .word-at2 .ensures i }
+returns c =
+    let p = c .before .before .before .args .p in
+    λ i. record { refusal = 0; tag = c .before .word-at .ensures i; start = p + 8; length = c .word-at2 .ensures i }
 
 pub record-from-spec : {M : Type 1} → statement M
 record-from-spec =

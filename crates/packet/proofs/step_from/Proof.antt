@@ -10,7 +10,15 @@ behind-requires : tie.Need-behind-requires
 behind-requires c κs = search needs
 
 returns : tie.Need-returns
-returns c = λ i. record { refusal = 0; kind = c .before .record-from .ensures i .kind; start = c .before .record-from .ensures i .start; length = c .before .record-from .ensures i .length; next = record { at = c .behind .ensures i } }
+returns c =
+    let shown = c .before .record-from .ensures in
+    λ i. record {
+      refusal = 0;
+      tag = shown i .tag;
+      start = shown i .start;
+      length = shown i .length;
+      next = record { at = c .behind .ensures i };
+    }
 
 pub step-from-spec : {M : Type 1} → statement M
 step-from-spec = tie.close (tie.spec record-from-requires behind-requires returns)

@@ -5,10 +5,10 @@ use Rattle.packet_cases.proofs.points.Statement.{statement}
 use Rattle.packet_cases.proofs.points.Tie as tie
 
 abbrev Inv-loop : tie.InvT-loop
-Inv-loop s found count i₀ t6 t7 i = i ≤ 34
+Inv-loop s found count i₀ i = i ≤ 34
 
 abbrev μ-loop : tie.MeasureT-loop
-μ-loop s found count i₀ t6 t7 i = 34 - i
+μ-loop s found count i₀ i = 34 - i
 
 points-requires : tie.Need-points-requires Inv-loop μ-loop
 points-requires c κs = tt
@@ -55,26 +55,11 @@ write-all-requires-2 c κs = tt
 field-requires-4 : tie.Need-field-requires-4 Inv-loop μ-loop
 field-requires-4 c κs = tt
 
-point-in-requires : tie.Need-point-in-requires Inv-loop μ-loop
-point-in-requires c κs = tt
-
-print-point-requires : tie.Need-print-point-requires Inv-loop μ-loop
-print-point-requires c κs = tt
-
-slice-aggregate-write-all-3 : tie.Need-slice-aggregate-write-all-3 Inv-loop μ-loop
-slice-aggregate-write-all-3 c = search needs
-
-write-all-requires-3 : tie.Need-write-all-requires-3 Inv-loop μ-loop
-write-all-requires-3 c κs = tt
-
-field-requires-5 : tie.Need-field-requires-5 Inv-loop μ-loop
-field-requires-5 c κs = tt
-
 point-requires : tie.Need-point-requires Inv-loop μ-loop
 point-requires c κs = tt
 
-print-point-requires-2 : tie.Need-print-point-requires-2 Inv-loop μ-loop
-print-point-requires-2 c κs = tt
+print-point-requires : tie.Need-print-point-requires Inv-loop μ-loop
+print-point-requires c κs = tt
 
 add-i : tie.Need-add-i Inv-loop μ-loop
 add-i c = search needs
@@ -109,13 +94,8 @@ points-spec =
     slice-aggregate-write-all-2
     write-all-requires-2
     field-requires-4
-    point-in-requires
-    print-point-requires
-    slice-aggregate-write-all-3
-    write-all-requires-3
-    field-requires-5
     point-requires
-    print-point-requires-2
+    print-point-requires
     add-i
     loop-less
     loop-again

@@ -18,7 +18,9 @@ slice-aggregate-result-2 : tie.Need-slice-aggregate-result-2
 slice-aggregate-result-2 c = search needs
 
 returns-2 : tie.Need-returns-2
-returns-2 c = let a = c .before .before .before .args in part-none (a .bytes .now) (a .shown) (omega (arith, c .before .before .if1 .left, c .before .if2 .taken))
+returns-2 c =
+    let a = c .before .before .before .args in
+    part-none (a .bytes .now) (a .shown) (omega (arith, c .before .before .if1 .left, c .before .if2 .taken))
 
 add-end : tie.Need-add-end
 add-end c = search needs
@@ -33,7 +35,9 @@ part-result-end : tie.Need-part-result-end
 part-result-end c = search needs
 
 returns-3 : tie.Need-returns-3
-returns-3 c = let a = c .before .before .before .args in part-there (a .bytes .now) (a .shown) (omega (arith, c .before .before .if1 .left, c .before .if2 .left))
+returns-3 c =
+    let a = c .before .before .before .args in
+    part-there (a .bytes .now) (a .shown) (omega (arith, c .before .before .if1 .left, c .before .if2 .left))
 
 pub part-of-spec : {M : Type 1} → statement M
 part-of-spec =

@@ -48,7 +48,7 @@ use Rattle.packet.specs.Fields.{RecordShown}
 use Rattle.packet.specs.declared.PacketRecord.{PacketRecord}
 use Rattle.packet.proofs.PacketRecord as S
 use Rattle.packet.proofs.PacketRecord.Laws as S′
-use Rattle.packet_reader.specs.Parts.{partOf}
+use Rattle.packet_reader.specs.Internal.{partOf}
 use Rattle.packet_reader.specs.declared.PacketReader.{PacketReader}
 use Rattle.packet_reader.specs.declared.RecordPart.{RecordPart}
 use Rattle.packet_reader.proofs.PartLaws.{part-is-payload}
@@ -103,7 +103,7 @@ module _ {M : Type 1} (𝓤 : URA M) (H : Heap 𝓤) (A : Atoms 𝓤) (W : Given
   vp y = sliceVal (y .ptr) (length (y .now))
 
   abbrev made : PacketRecord → RefT (List ℕ) → RecordPart
-  made r y = record { payload = y; refusal = r .refusal; kind = r .kind }
+  made r y = record { payload = y; refusal = r .refusal; tag = r .tag }
 
   -- what the two calls say
   abbrev Shown : PacketRecord → Type 0
@@ -185,18 +185,23 @@ module _ {M : Type 1} (𝓤 : URA M) (H : Heap 𝓤) (A : Atoms 𝓤) (W : Given
 
   -- the result's machine value, of the part's
   abbrev result : PacketRecord → Val → Val
-  result r w = vstruct (vcons w (vcons (vint w32 (r .refusal)) (vcons (vint w32 (r .kind)) vnil)))
+  result r w = vstruct (vcons w (vcons (vint w32 (r .refusal)) (vcons (vint w32 (r .tag)) vnil)))
 
   exits : (r : PacketRecord) (y : RefT (List ℕ)) → WT (S′.lowered r) → Shown r → IsPart r y
       → ent 𝓤 (⋆ 𝓤 H A (‵ (R .own y (vp y ∷ [])) ∷ (‵ (flft κ q) ⊛ ‵ ftrue) ∷ ‵ Own ∷ [])) (Post (P′.lowered (made r y)))
   exits r y ok e f =
       qed W (‵ (R .own y (vp y ∷ [])) ∷ (‵ (flft κ q) ⊛ ‵ ftrue) ∷ ‵ Own ∷ []) ∵
       suffices ! _ (ends-at 𝓤 H A show.ended stayed (show.clauses 𝓤 H A mem run) W (((κ, tt), (q, tt), tt, (d, (n, tt)), at), tt) (P′.lowered (made r y)) (made r y) (tt, (tt, tt)) (tt, (tt, tt))) $
-      says ! (record { payload = f ∙ part-is-payload e; refused = ap (λ (x : PacketRecord). x .refusal) (e .answers); type-is = ap (λ (x : PacketRecord). x .kind) (e .answers) }) $
+      says ! (record {
+        payload = f ∙ part-is-payload e;
+        refused = ap (λ (x : PacketRecord). x .refusal) (e .answers);
+        type-is = ap (λ (x : PacketRecord). x .tag) (e .answers);
+      }) $
       move ! (1 ∷ []) $ frame ! $ nothing ! $ owned ! usize (Is usize) (uint-makes 𝓤 H A W w64) n _ (refl, nok) $ fjoin ! $ move ! (2 ∷ 0 ∷ []) $ fjoin ! $ frame ! $
       -- [what the part owns]: with the numbers' facts it is what the result owns
-      nothing ! $ owned ! u32 (Is u32) (uint-makes 𝓤 H A W w32) (r .kind) _ (refl, ok .1 .0 .fits) $ fjoin ! $ owned ! u32 (Is u32) (uint-makes 𝓤 H A W w32) (r .refusal) _ (refl, ok .0 .fits) $ fjoin ! $
-      move ! (1 ∷ 0 ∷ []) $ fjoin ! $ by ! (own-shut 𝓤 H A W (P.the-type α) (P′.the-laws α) (y, (r .refusal, (r .kind, tt))))
+      nothing ! $ owned ! u32 (Is u32) (uint-makes 𝓤 H A W w32) (r .tag) _ (refl, ok .1 .0 .fits) $ fjoin ! $
+      owned ! u32 (Is u32) (uint-makes 𝓤 H A W w32) (r .refusal) _ (refl, ok .0 .fits) $ fjoin ! $
+      move ! (1 ∷ 0 ∷ []) $ fjoin ! $ by ! (own-shut 𝓤 H A W (P.the-type α) (P′.the-laws α) (y, (r .refusal, (r .tag, tt))))
 
   -- the same at the machine value that `part_of` returned
   exits-at : (r : PacketRecord) (y : RefT (List ℕ)) (w : Val) → w ≡ vp y → WT (S′.lowered r) → Shown r → IsPart r y

@@ -30,7 +30,7 @@ pub struct Header {
 #[allow(missing_docs)]
 pub struct Record {
     pub refusal: u32,
-    pub kind: u32,
+    pub tag: u32,
     pub start: u64,
     pub length: u64,
 }
@@ -41,7 +41,7 @@ pub struct Record {
 #[allow(missing_docs)]
 pub struct Step {
     pub refusal: u32,
-    pub kind: u32,
+    pub tag: u32,
     pub start: u64,
     pub length: u64,
     pub next: u64,
@@ -201,7 +201,7 @@ impl FieldSubject for Reference {
     fn record(&self, packet: &[u8], index: usize) -> Record {
         let answer = packet::record(packet, index_of(index)).map(|record| Record {
             refusal: 0,
-            kind: record.record_type,
+            tag: record.record_type,
             start: start_of(record.payload, packet),
             length: record.payload.len() as u64,
         });
@@ -212,7 +212,7 @@ impl FieldSubject for Reference {
         match packet::step(packet, place) {
             Ok((record, behind)) => Step {
                 refusal: 0,
-                kind: record.record_type,
+                tag: record.record_type,
                 start: start_of(record.payload, packet),
                 length: record.payload.len() as u64,
                 next: behind as u64,
