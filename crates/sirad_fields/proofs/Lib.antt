@@ -1,6 +1,7 @@
 pub mod ValueLaws
 pub mod FrameLaws
 pub mod PhaseLaws
+pub mod ReadsExactly
 pub mod RoundTrips
 pub mod NumberLaws
 pub mod StoringLaws
