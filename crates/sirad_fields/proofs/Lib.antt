@@ -3,6 +3,7 @@ pub mod FrameLaws
 pub mod PhaseLaws
 pub mod ReadsExactly
 pub mod RoundTrips
+pub mod BufferTrips
 pub mod NumberLaws
 pub mod StoringLaws
 pub mod ReadingLaws
