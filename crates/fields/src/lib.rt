@@ -87,7 +87,8 @@ pub extern "C" fn vq_read_error(frame: &[u8]) -> ErrorFrame
 // Writes a frame R, P or C (kinds 1 to 3) with these characters; 53, 52, 50, 51.
 #[no_mangle]
 pub extern "C" fn vq_write_data(out: &mut [u8], kind: u32, content: &[u8]) -> Written
-    ensures { λ r. ⌜ Writes (dataRefusal kind (now (content .entry))) (dataBytes kind (now (content .entry))) (now (out .entry)) r (now (out .exit)) ⌝ }
+    ensures { λ r. ⌜ Writes (dataRefusal kind (now (content .entry)))
+        (dataBytes kind (now (content .entry))) (now (out .entry)) r (now (out .exit)) ⌝ }
 {
     sirad_fields::write_data(out, kind, content)
 }
@@ -95,7 +96,8 @@ pub extern "C" fn vq_write_data(out: &mut [u8], kind: u32, content: &[u8]) -> Wr
 // Writes a T frame with the format, gain and targets of `frame`, whose refusal counts for nothing; 50, 51.
 #[no_mangle]
 pub extern "C" fn vq_write_targets(out: &mut [u8], frame: TargetFrame) -> Written
-    ensures { λ r. ⌜ Writes (targetsRefusal (frame .format) (frame .gain) (frame .targets)) (targetsBytes (frame .format) (frame .gain) (frame .targets)) (now (out .entry)) r (now (out .exit)) ⌝ }
+    ensures { λ r. ⌜ Writes (targetsRefusal (frame .format) (frame .gain) (frame .targets))
+        (targetsBytes (frame .format) (frame .gain) (frame .targets)) (now (out .entry)) r (now (out .exit)) ⌝ }
 {
     let targets = frame.targets;
     sirad_fields::write_targets(out, frame.format, frame.gain, targets)
@@ -113,7 +115,8 @@ pub extern "C" fn vq_write_status(
     bandwidth: u16,
     time: u16,
 ) -> Written
-    ensures { λ r. ⌜ Writes (statusRefusal (statusNumbers format gain accuracy range ramp bandwidth time)) (statusBytes (statusNumbers format gain accuracy range ramp bandwidth time)) (now (out .entry)) r (now (out .exit)) ⌝ }
+    ensures { λ r. ⌜ Writes (statusRefusal (statusNumbers format gain accuracy range ramp bandwidth time))
+        (statusBytes (statusNumbers format gain accuracy range ramp bandwidth time)) (now (out .entry)) r (now (out .exit)) ⌝ }
 {
     sirad_fields::write_status(out, format, gain, accuracy, range, ramp, bandwidth, time)
 }

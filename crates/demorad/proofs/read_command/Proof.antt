@@ -65,7 +65,8 @@ returns-2 c =
     let f = w .before .before in
     c .refused2 .ensures
     ∙ read-illegal (f .before .before .args .bytes .now) _ _ _ _ _ (sym (f .framing-of .ensures) ∙ w .before .if1 .left)
-    (w .word-at .ensures) (k .code-of .ensures) (ap (λ (m : ℕ). m - 1) (n .length-of .ensures)) (p .payload .ensures) (l .command-refusal .ensures .0) (c .before .if2 .taken)
+    (w .word-at .ensures) (k .code-of .ensures) (ap (λ (m : ℕ). m - 1) (n .length-of .ensures))
+    (p .payload .ensures) (l .command-refusal .ensures .0) (c .before .if2 .taken)
 
 rd-of-requires : tie.Need-rd-of-requires
 rd-of-requires c κs = search needs
@@ -79,7 +80,8 @@ returns-3 c =
     let w = k .before in
     let f = w .before .before in
     read-done (f .before .before .args .bytes .now) _ _ _ _ _ (sym (f .framing-of .ensures) ∙ w .before .if1 .left)
-    (w .word-at .ensures) (k .code-of .ensures) (ap (λ (m : ℕ). m - 1) (n .length-of .ensures)) (p .payload .ensures) (l .command-refusal .ensures .0) _
+    (w .word-at .ensures) (k .code-of .ensures) (ap (λ (m : ℕ). m - 1) (n .length-of .ensures))
+    (p .payload .ensures) (l .command-refusal .ensures .0) _
     (c .rd-of .ensures) (c .before .if2 .left)
 
 pub read-command-spec : {M : Type 1} → statement M

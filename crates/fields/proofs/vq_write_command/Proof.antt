@@ -1,4 +1,5 @@
--- `fields::vq_write_command` meets its contract: an RD over 1 is refused behind the code, the count and the selection; else the flag is written.
+-- `fields::vq_write_command` meets its contract: an RD over 1 is refused behind the code, the count and the selection.
+-- Else it is written as the flag.
 use borrow.Author.Needs.{needs}
 use Rattle.fields.proofs.NumberLaws.{numbers-illegal, numbers-unencoded, numbers-written}
 use Rattle.fields.proofs.vq_write_command.Statement.{statement}
