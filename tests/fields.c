@@ -140,12 +140,13 @@ static void mmwave(void)
 static void command(const char *what, const uint8_t *bytes, size_t count)
 {
     struct vq_command c = vq_read_command(bytes, count);
-    printf("command %s: %" PRIu32 " %d %04" PRIX32 " %" PRIu32 " %" PRIu32 " %" PRIu32 "\n", what, c.refusal, c.rd, c.code, c.count, c.words[0], c.words[29]);
+    printf("command %s: %" PRIu32 " %" PRIu32 " %04" PRIX32 " %" PRIu32 " %" PRIu32 " %" PRIu32 "\n", what, c.refusal, c.rd, c.code, c.count, c.words[0], c.words[29]);
 }
 
 static void demorad(void)
 {
-    struct vq_command c = {9, true, 0x9017, 30, {'A', 3}};
+    struct vq_command c = {9, 1, 0x9017, 30, {'A', 3}};
+    static const uint32_t flags[] = {0, 2, 256, 0x80000000, 0x80000001, UINT32_MAX};
     uint8_t bytes[124];
     c.words[29] = 0x44434241;
 
@@ -157,6 +158,16 @@ static void demorad(void)
     written("write command", w, 130);
     command("written", bytes, sizeof bytes);
     written("write command, room for 123", vq_write_command(output, 123, c), 10);
+    for (size_t i = 0; i < sizeof flags / sizeof flags[0]; i++) {
+        char what[40];
+        c.rd = flags[i];
+        snprintf(what, sizeof what, "write command, RD %" PRIu32, c.rd);
+        w = vq_write_command(output, sizeof output, c);
+        if (w.refusal == 0)
+            command("written with RD 0", output, (size_t)w.size);
+        written(what, w, 10);
+    }
+    written("write command, RD 4294967295, room for 123", vq_write_command(output, 123, c), 10);
     c.words[1] = 4;
     written("write command, selection 4", vq_write_command(output, 123, c), 10);
     c.count = 31;

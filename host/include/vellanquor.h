@@ -20,7 +20,6 @@
 #ifndef VELLANQUOR_H
 #define VELLANQUOR_H
 
-#include <stdbool.h>
 #include <stddef.h>
 #include <stdint.h>
 
@@ -298,11 +297,15 @@ struct vq_point vq_point(const uint8_t *packet, size_t count, size_t index);
 /*
  * A DemoRad command: the bytes are exactly one command. Words behind the count are 0 in reading; writing ignores them,
  * and the refusal.
- *   refusal  0, or 40 to 46, the least that applies; in writing 0, or 44, 45, 46, 51
+ *   refusal  0, or 40 to 46, the least that applies; in writing 0, or 44, 45, 46, 50, 51: the first of them in this order
+ *            that applies
+ *   rd       the header's RD bit, 0 or 1; in writing any other number is refused with 50
+ *   code     one of the seven command codes, 0x6005 to 0x9017; in writing any other number is refused with 44
+ *   count    the payload words, 0 to 30, without the header; in writing one that the code does not allow is refused with 45
  */
 struct vq_command {
     uint32_t refusal;
-    bool rd;
+    uint32_t rd;
     uint32_t code;
     uint32_t count;
     uint32_t words[30];

@@ -51,7 +51,6 @@ const REST: u32 = 0x20_0000;
 const LENGTH: u32 = 0x1_0000;
 
 // A command that was read; refused: its number, and every other number 0.
-#[repr(C)]
 pub struct Command {
     pub refusal: u32,
     pub rd: bool,
@@ -126,8 +125,9 @@ fn rule_of(code: u32) -> Rule
     }
 }
 
-// The refusal of a command; 0 for none. The array's length is promised for callers that only pass it on.
-fn legal(code: u32, count: u32, words: [u32; 30]) -> u32
+// The refusal of a command's values: 44, 45, 46, in this order, or 0. Code 6006 (hex) with one word, 5, is 46.
+// The array's length is promised for callers that only pass it on.
+pub fn command_refusal(code: u32, count: u32, words: [u32; 30]) -> u32
     ensures { λ r. ⌜ r ≡ legality code count words ⌝ }
     ensures thirty { λ r. ⌜ length words ≡ maxPayload ⌝ }
 {
@@ -243,7 +243,7 @@ pub fn read_command(bytes: &[u8]) -> Command
     let length = length_of(header);
     let count = length - 1;
     let words = payload(bytes, count as usize);
-    let illegal = legal(code, count, words);
+    let illegal = command_refusal(code, count, words);
     if illegal != 0 {
         return refused(illegal);
     }
@@ -289,7 +289,7 @@ fn put_payload(out: &mut [u8], n: usize, words: [u32; 30])
 pub fn write_command(out: &mut [u8], rd: bool, code: u32, count: u32, words: [u32; 30]) -> Written
     ensures { λ r. ⌜ Writes (legality code count words) (commandBytes rd code count words) (now (out .entry)) r (now (out .exit)) ⌝ }
 {
-    let illegal = legal(code, count, words);
+    let illegal = command_refusal(code, count, words);
     if illegal != 0 {
         return Written {
             refusal: illegal,

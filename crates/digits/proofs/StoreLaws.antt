@@ -1,18 +1,19 @@
 -- Stores into a lent buffer, one piece behind the other, and the three answers of a writer. The engine is `sets-append`: storing two pieces
 -- is storing the first, then the second behind it.
-use mathlib.Core.Path.{_≡_, refl, sym, ap, _∙_}
-use mathlib.Core.List.{List, [], _∷_, _++_, append-nil}
-use Prim.Native.Nat.{ℕ, zero, suc, _+_, _*_, _/_, _%_, _^_, _<_, _≤_}
+use mathlib.Core.Path.{_≡_, refl, sym, subst, ap, _∙_}
+use mathlib.Core.Bool.{true}
+use mathlib.Core.List.{List, [], _∷_, _++_}
+use Prim.Native.Nat.{ℕ, suc, _+_, _/_, _%_, _<_, _≤_}
 use native.Mathlib.Nat.{add-zero, zero-add}
 use native.Mathlib.Numerals.{add-one, add-two, add-three}
 use native.Mathlib.Decide.{decLe, ℕ-discrete}
 use native.Mathlib.Omega.{arith}
 use borrow.Author.Tests.{le-leb, lt-leb, eq-eqb, ne-eqb}
 use lib.Dec.{leb}
-use lib.ListN.{length, take, drop, getD, set, length-set}
-use lib.Seq.{sets, sets-eq, length-sets, set-comm, set-out}
+use lib.ListN.{length, take, drop, set}
+use lib.Seq.{sets, sets-eq, length-sets, set-comm, take-at}
 use Rattle.digits.specs.LittleEndian.{toLittle}
-use Rattle.digits.specs.Stores.{stored, wordStored, writerAnswer, writerLeaves, Writes}
+use Rattle.digits.specs.Stores.{stored, wordStored, writerAnswer, Writes}
 use Rattle.digits.specs.declared.Written.{Written}
 use Rattle.digits.proofs.Choices.{cond-apply, cond-same}
 
@@ -32,7 +33,8 @@ set-behind l at (x ∷ xs) j b h =
     set-behind (set l at x) (suc at) xs j b (omega arith) ∙ ap (λ (k : List ℕ). sets k (suc at) xs) (set-comm l at j x b (λ e. omega arith))
 
 -- a piece behind a piece may come before it
-pub sets-behind : (l : List ℕ) (at : ℕ) (xs : List ℕ) (j : ℕ) (ys : List ℕ) → at + length xs ≤ j → sets (sets l at xs) j ys ≡ sets (sets l j ys) at xs
+pub sets-behind : (l : List ℕ) (at : ℕ) (xs : List ℕ) (j : ℕ) (ys : List ℕ) → at + length xs ≤ j
+    → sets (sets l at xs) j ys ≡ sets (sets l j ys) at xs
 sets-behind l at xs j [] h = refl
 sets-behind l at xs j (y ∷ ys) h =
     ap (λ (k : List ℕ). sets k (suc j) ys) (set-behind l at xs j y h) ∙ sets-behind (set l j y) at xs (suc j) ys (omega arith)
@@ -65,7 +67,8 @@ unfolding stored
 length-stored l at bs = length-sets l at bs
 
 -- bytes that fit replace those at their offsets, and all others stay
-pub stored-parts : (l : List ℕ) (at : ℕ) (bs : List ℕ) → at + length bs ≤ length l → stored l at bs ≡ take at l ++ bs ++ drop (at + length bs) l
+pub stored-parts : (l : List ℕ) (at : ℕ) (bs : List ℕ) → at + length bs ≤ length l
+    → stored l at bs ≡ take at l ++ bs ++ drop (at + length bs) l
 unfolding stored
 stored-parts l at bs h = sets-eq bs l at h
 
@@ -89,11 +92,13 @@ word-unfit l at v h = rw (lt-leb (at + 4) (length l) h)
 pub length-word-stored : (l : List ℕ) (at v : ℕ) → length (wordStored l at v) ≡ length l
 unfolding wordStored
 length-word-stored l at v =
-    cond-apply length (leb (at + 4) (length l)) (stored l at (toLittle 4 v)) l ∙ rw (length-stored l at (toLittle 4 v)) (cond-same (leb (at + 4) (length l)) (length l))
+    cond-apply length (leb (at + 4) (length l)) (stored l at (toLittle 4 v)) l
+    ∙ rw (length-stored l at (toLittle 4 v)) (cond-same (leb (at + 4) (length l)) (length l))
 
 -- four stores in a row are the number
 pub four-stores : (l : List ℕ) (at v : ℕ) → at + 4 ≤ length l
-    → set (set (set (set l at (v % 256)) (at + 1) (v / 256 % 256)) (at + 2) (v / 256 / 256 % 256)) (at + 3) (v / 256 / 256 / 256 % 256) ≡ wordStored l at v
+    → set (set (set (set l at (v % 256)) (at + 1) (v / 256 % 256)) (at + 2) (v / 256 / 256 % 256)) (at + 3) (v / 256 / 256 / 256 % 256)
+    ≡ wordStored l at v
 unfolding stored toLittle
 four-stores l at v h = rw (word-fits l at v h, add-one, add-two, add-three)
 
@@ -168,3 +173,23 @@ refused refusal bytes out r after w z = go (ℕ-discrete refusal 0) (decLe (leng
       ap (λ (a : Written). a .size) (w .answers) ∙ rw (eq-eqb refusal 0 e, lt-leb (length bytes) (length out) (omega arith)),
     )
     go (no e) l = (w .leaves ∙ rw (ne-eqb refusal 0 e), ap (λ (a : Written). a .size) (w .answers) ∙ rw (ne-eqb refusal 0 e))
+
+-- -- Round trips through the lent buffer
+
+-- whatever holds of the bytes of a writer's values holds of what it left at the buffer's start
+pub left-holds : (P : List ℕ → Type 0) (refusal : ℕ) (bytes out : List ℕ) (r : Written) (after : List ℕ) → (refusal ≡ 0 → P bytes)
+    → Writes refusal bytes out r after → r .refusal ≡ 0 → P (take (r .size) after)
+left-holds P refusal bytes out r after holds w z =
+    let s = succeeded refusal bytes out r after w z in
+    let e : take (r .size) after ≡ bytes = rw (s .buffer) (take-at bytes (drop (length bytes) out) (r .size) (sym (s .size))) in
+    subst P (sym e) (holds (s .fine))
+
+-- values that are not refused, into a buffer with room: their bytes come first at exit, and all behind them stay
+pub left-again : (refusal : ℕ) (bytes frame out : List ℕ) (r : Written) (after : List ℕ) → refusal ≡ 0 → bytes ≡ frame
+    → length frame ≤ length out
+    → Writes refusal bytes out r after → (r .refusal ≡ 0) × (after ≡ frame ++ drop (length frame) out)
+left-again refusal bytes frame out r after fine same room w =
+    let v : Writes 0 frame out r after = rw (fine, same) at w in
+    let l : leb (length frame) (length out) ≡ true = le-leb (length frame) (length out) room in
+    let z : r .refusal ≡ 0 = ap (λ (a : Written). a .refusal) (v .answers) ∙ rw l in
+    (z, succeeded 0 frame out r after v z .buffer)

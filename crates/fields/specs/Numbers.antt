@@ -1,7 +1,16 @@
--- A packet's header as numbers that cross to C (paper 01, "Fields").
-use Rattle.mmwave.specs.declared.Header.{Header}
+-- A packet's header and a command as numbers that cross to C (paper 01, "Fields" and "DemoRad").
+use mathlib.Core.Bool.{Bool, cond}
+use mathlib.Core.List.{List}
+use Prim.Native.Nat.{ℕ}
+use lib.Dec.{eqb, leb}
 use Rattle.packet.specs.declared.PacketHeader.{PacketHeader}
+use Rattle.demorad.specs.Rules.{legality}
+use Rattle.demorad.specs.Image.{commandBytes}
+use Rattle.demorad.specs.declared.Command.{Command}
 use Rattle.fields.specs.declared.HeaderNumbers.{HeaderNumbers}
+use Rattle.fields.specs.declared.CommandNumbers.{CommandNumbers}
+
+-- -- A header
 
 -- the refusal, and the eight fields in wire order
 abbrev pub headerNumbers : PacketHeader → HeaderNumbers
@@ -17,3 +26,22 @@ headerNumbers h =
       records = h .fields .records;
       subframe = h .fields .subframe;
     }
+
+-- -- A command
+
+-- RD as a number: 1 if it is set, else 0
+abbrev pub rdNumber : Bool → ℕ
+rdNumber rd = cond rd 1 0
+
+-- a command with RD as a number (paper 01, "DemoRad": RD, the code, the payload count and 30 words by value)
+abbrev pub commandNumbers : Command → CommandNumbers
+commandNumbers c = record { refusal = c .refusal; rd = rdNumber (c .rd); code = c .code; count = c .count; words = c .words }
+
+-- the refusal of numbers to be written: 44, 45, 46, then 50 for an RD without an encoding; 0 for none (paper 01, "Refusal numbers")
+unfoldable pub numbersRefusal : CommandNumbers → ℕ
+numbersRefusal c =
+    cond (eqb (legality (c .code) (c .count) (c .words)) 0) (cond (leb (c .rd) 1) 0 50) (legality (c .code) (c .count) (c .words))
+
+-- the command of numbers that are not refused: RD is set by a 1
+unfoldable pub numbersBytes : CommandNumbers → List ℕ
+numbersBytes c = commandBytes (eqb (c .rd) 1) (c .code) (c .count) (c .words)

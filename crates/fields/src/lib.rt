@@ -1,7 +1,6 @@
 // The C face of fields and commands: the readers and writers of `sirad_fields`, `packet` and `demorad` under names for C, each with its own
 // promise. A slice is a pointer that is not null and a count; a struct crosses by value.
 
-use demorad::Command;
 use digits::Written;
 use packet::Cursor;
 use packet::PacketPoint;
@@ -18,10 +17,11 @@ ghost use Rattle.sirad_fields.specs.Fields.{dataRefusal, dataBytes, targetsRefu
 ghost use Rattle.sirad_fields.specs.Fields.{statusNumbers, statusRefusal, statusBytes, errorRefusal, errorBytes};
 ghost use Rattle.mmwave.specs.MmWave.{mmWave};
 ghost use Rattle.packet.specs.Fields.{headerOf, RecordShown, StepShown, pointOf};
-ghost use Rattle.demorad.specs.Rules.{legality};
-ghost use Rattle.demorad.specs.Image.{commandBytes};
 ghost use Rattle.demorad.specs.Reading.{readCommand};
-ghost use Rattle.fields.specs.Numbers.{headerNumbers};
+ghost use Rattle.fields.specs.Numbers.{headerNumbers, rdNumber, commandNumbers, numbersRefusal, numbersBytes};
+
+// Refused: a value without an encoding (paper 01, "Refusal numbers").
+const NO_ENCODING: u32 = 50;
 
 // A packet's header: the refusal number (0: none), and the fields in wire order.
 #[repr(C)]
@@ -35,6 +35,17 @@ pub struct HeaderNumbers {
     pub objects: u32,
     pub records: u32,
     pub subframe: u32,
+}
+
+// A command: the refusal number (0: none), RD as 0 or 1, the code, the payload count and thirty words.
+// A host may hand over any number as RD, so it is no `bool` here.
+#[repr(C)]
+pub struct CommandNumbers {
+    pub refusal: u32,
+    pub rd: u32,
+    pub code: u32,
+    pub count: u32,
+    pub words: [u32; 30],
 }
 
 // -- SiRad frames: read
@@ -76,7 +87,8 @@ pub extern "C" fn vq_read_error(frame: &[u8]) -> ErrorFrame
 // Writes a frame R, P or C (kinds 1 to 3) with these characters; 53, 52, 50, 51.
 #[no_mangle]
 pub extern "C" fn vq_write_data(out: &mut [u8], kind: u32, content: &[u8]) -> Written
-    ensures { λ r. ⌜ Writes (dataRefusal kind (now (content .entry))) (dataBytes kind (now (content .entry))) (now (out .entry)) r (now (out .exit)) ⌝ }
+    ensures { λ r. ⌜ Writes (dataRefusal kind (now (content .entry)))
+        (dataBytes kind (now (content .entry))) (now (out .entry)) r (now (out .exit)) ⌝ }
 {
     sirad_fields::write_data(out, kind, content)
 }
@@ -84,7 +96,8 @@ pub extern "C" fn vq_write_data(out: &mut [u8], kind: u32, content: &[u8]) -> Wr
 // Writes a T frame with the format, gain and targets of `frame`, whose refusal counts for nothing; 50, 51.
 #[no_mangle]
 pub extern "C" fn vq_write_targets(out: &mut [u8], frame: TargetFrame) -> Written
-    ensures { λ r. ⌜ Writes (targetsRefusal (frame .format) (frame .gain) (frame .targets)) (targetsBytes (frame .format) (frame .gain) (frame .targets)) (now (out .entry)) r (now (out .exit)) ⌝ }
+    ensures { λ r. ⌜ Writes (targetsRefusal (frame .format) (frame .gain) (frame .targets))
+        (targetsBytes (frame .format) (frame .gain) (frame .targets)) (now (out .entry)) r (now (out .exit)) ⌝ }
 {
     let targets = frame.targets;
     sirad_fields::write_targets(out, frame.format, frame.gain, targets)
@@ -102,7 +115,8 @@ pub extern "C" fn vq_write_status(
     bandwidth: u16,
     time: u16,
 ) -> Written
-    ensures { λ r. ⌜ Writes (statusRefusal (statusNumbers format gain accuracy range ramp bandwidth time)) (statusBytes (statusNumbers format gain accuracy range ramp bandwidth time)) (now (out .entry)) r (now (out .exit)) ⌝ }
+    ensures { λ r. ⌜ Writes (statusRefusal (statusNumbers format gain accuracy range ramp bandwidth time))
+        (statusBytes (statusNumbers format gain accuracy range ramp bandwidth time)) (now (out .entry)) r (now (out .exit)) ⌝ }
 {
     sirad_fields::write_status(out, format, gain, accuracy, range, ramp, bandwidth, time)
 }
@@ -163,19 +177,51 @@ pub extern "C" fn vq_point(packet: &[u8], index: usize) -> PacketPoint
 
 // -- DemoRad commands
 
-// The command that exactly these bytes are; 40 to 46, rising.
-#[no_mangle]
-pub extern "C" fn vq_read_command(bytes: &[u8]) -> Command
-    ensures { λ r. ⌜ r ≡ readCommand (now (bytes .entry)) ⌝ }
+// RD as a number.
+fn rd_number(rd: bool) -> u32
+    ensures { λ r. ⌜ r ≡ rdNumber rd ⌝ }
 {
-    demorad::read_command(bytes)
+    if rd {
+        return 1;
+    }
+    0
 }
 
-// Writes a command with RD, code, count and words of `command`, whose refusal counts for nothing; 44, 45, 46, 51.
+// The command that exactly these bytes are; 40 to 46, rising.
 #[no_mangle]
-pub extern "C" fn vq_write_command(out: &mut [u8], command: Command) -> Written
-    ensures { λ r. ⌜ Writes (legality (command .code) (command .count) (command .words)) (commandBytes (command .rd) (command .code) (command .count) (command .words)) (now (out .entry)) r (now (out .exit)) ⌝ }
+pub extern "C" fn vq_read_command(bytes: &[u8]) -> CommandNumbers
+    ensures { λ r. ⌜ r ≡ commandNumbers (readCommand (now (bytes .entry))) ⌝ }
+{
+    let command = demorad::read_command(bytes);
+    let words = command.words;
+    let rd = rd_number(command.rd);
+    CommandNumbers {
+        refusal: command.refusal,
+        rd,
+        code: command.code,
+        count: command.count,
+        words,
+    }
+}
+
+// Writes a command with RD, code, count and words of `command`, whose refusal counts for nothing; 44, 45, 46, 50 (an RD over 1), 51.
+#[no_mangle]
+pub extern "C" fn vq_write_command(out: &mut [u8], command: CommandNumbers) -> Written
+    ensures { λ r. ⌜ Writes (numbersRefusal command) (numbersBytes command) (now (out .entry)) r (now (out .exit)) ⌝ }
 {
     let words = command.words;
-    demorad::write_command(out, command.rd, command.code, command.count, words)
+    if 1 < command.rd {
+        let illegal = demorad::command_refusal(command.code, command.count, words);
+        if illegal != 0 {
+            return Written {
+                refusal: illegal,
+                size: 0,
+            };
+        }
+        return Written {
+            refusal: NO_ENCODING,
+            size: 0,
+        };
+    }
+    demorad::write_command(out, command.rd == 1, command.code, command.count, words)
 }

@@ -1,7 +1,9 @@
 pub mod ValueLaws
 pub mod FrameLaws
 pub mod PhaseLaws
+pub mod ReadsExactly
 pub mod RoundTrips
+pub mod BufferTrips
 pub mod NumberLaws
 pub mod StoringLaws
 pub mod ReadingLaws

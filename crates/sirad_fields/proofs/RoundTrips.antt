@@ -2,10 +2,10 @@
 use mathlib.Core.Path.{_≡_, refl, sym, ap, _∙_}
 use mathlib.Core.Bool.{Bool, true, false, cond, _&&_}
 use mathlib.Core.List.{List, [], _∷_}
-use Prim.Native.Nat.{ℕ, zero, suc, _+_, _-_, _<_, _≤_}
+use Prim.Native.Nat.{ℕ, zero, suc, _+_, _<_, _≤_}
 use native.Mathlib.Omega.{arith}
-use borrow.Author.Tests.{le-leb, leb-true, eqb-true}
-use lib.Dec.{ltb, leb, eqb}
+use borrow.Author.Tests.{le-leb, leb-true}
+use lib.Dec.{ltb, leb}
 use lib.ListN.{length, take, drop, getD, length-drop}
 use lib.Seq.{drop-drop, length-take-le}
 use Rattle.digits.specs.Bytes.{isCharacter}
@@ -17,15 +17,16 @@ use Rattle.form.specs.Form.{judge}
 use Rattle.sirad.specs.Sirad.{sirad}
 use Rattle.sirad.specs.Table.{identifier}
 use Rattle.sirad.specs.Rows.{blocks, characters, rPieces, tPieces, uPieces, ePieces, rowOf}
-use Rattle.sirad_fields.specs.declared.DataFrame.{DataFrame}
 use Rattle.sirad_fields.specs.declared.Target.{Target}
-use Rattle.sirad_fields.specs.declared.TargetFrame.{TargetFrame}
-use Rattle.sirad_fields.specs.declared.StatusFrame.{StatusFrame}
-use Rattle.sirad_fields.specs.declared.ErrorFrame.{ErrorFrame}
 use Rattle.sirad_fields.specs.Values.{values, written, fit}
 use Rattle.sirad_fields.specs.Frames.{frameKind, numbersIn, frameOf, ReadsBack, WritesBack}
-use Rattle.sirad_fields.specs.Fields.{isData, dataStart, readData, partOf, dataNumbers, dataRefusal, dataBytes, Phases, blockNumbers, readTargets, targetNumbers, unencoded, targetsRefusal, targetsBytes, statusFields, readStatus, statusNumbers, sentNumbers, statusRefusal, statusBytes, readError, errorRefusal, errorBytes}
-use Rattle.sirad_fields.proofs.FrameLaws.{data-range, frame-kind, kind-length, numbers-back, size-back, written-judged, written-kind, written-again, numbers-fit}
+use Rattle.sirad_fields.specs.Fields.{isData, dataStart, readData, partOf, dataNumbers, dataRefusal, dataBytes}
+use Rattle.sirad_fields.specs.Fields.{Phases, blockNumbers, readTargets, targetNumbers, unencoded, targetsRefusal}
+use Rattle.sirad_fields.specs.Fields.{targetsBytes, statusFields, readStatus, statusNumbers, sentNumbers}
+use Rattle.sirad_fields.specs.Fields.{statusRefusal, statusBytes, readError, errorRefusal, errorBytes}
+use Rattle.sirad_fields.proofs.FrameLaws.{data-range, frame-kind, kind-length, numbers-back, size-back}
+use Rattle.sirad_fields.proofs.FrameLaws.{written-judged, written-kind, written-again, numbers-fit}
+use Rattle.sirad_fields.proofs.ReadsExactly.{error-kind, status-kind, targets-kind, data-found, data-read}
 use Rattle.sirad_fields.proofs.PhaseLaws.{numbers-targets, targets-numbers}
 
 -- values that are not refused fit
@@ -44,15 +45,11 @@ module _ (k : ℕ) (vs : List ℕ) (big : 3 < k) (most : k ≤ 6) (fits : fit (r
   unsized-numbers : values (rowOf k 0) (written (rowOf k 0) vs) ≡ vs
   unsized-numbers = numbers-back k 0 vs (omega arith) most (λ l. absurd (omega arith)) fits
 
--- a reader that does not refuse has found its kind
-found : {A : Type 0} (refusal : A → ℕ) (t : Bool) (fields refused : A) → refusal refused ≡ 5 → refusal (cond t fields refused) ≡ 0 → t ≡ true
-found refusal true fields refused e h = refl
-found refusal false fields refused e h = absurd (omega arith)
-
 -- -- Error flags
 
 -- flags that are written are read back
-pub error-written-reads-back : (flags : ℕ) → errorRefusal flags ≡ 0 → ReadsBack 6 (errorBytes flags) readError (record { refusal = 0; flags = flags })
+pub error-written-reads-back : (flags : ℕ) → errorRefusal flags ≡ 0
+    → ReadsBack 6 (errorBytes flags) readError (record { refusal = 0; flags = flags })
 unfolding readError
 error-written-reads-back flags h =
     let f = not-refused (fit ePieces (flags ∷ [])) h in
@@ -63,12 +60,9 @@ error-written-reads-back flags h =
       reads = rw (unsized-kind 6 (flags ∷ []) big most f, unsized-numbers 6 (flags ∷ []) big most f);
     }
 
-error-kind : (bs : List ℕ) → readError bs .refusal ≡ 0 → frameKind bs ≡ 6
-unfolding readError
-error-kind bs h = eqb-true (frameKind bs) 6 (found (λ (r : ErrorFrame). r .refusal) (eqb (frameKind bs) 6) _ _ refl h)
-
 -- flags that are read and written again are the same frame
-pub error-read-writes-back : (bs : List ℕ) → readError bs .refusal ≡ 0 → WritesBack 6 (errorRefusal (readError bs .flags)) (errorBytes (readError bs .flags)) bs
+pub error-read-writes-back : (bs : List ℕ) → readError bs .refusal ≡ 0
+    → WritesBack 6 (errorRefusal (readError bs .flags)) (errorBytes (readError bs .flags)) bs
 unfolding readError values
 error-read-writes-back bs h =
     let k = error-kind bs h in
@@ -78,8 +72,10 @@ error-read-writes-back bs h =
 -- -- Status
 
 -- a status that is written is read back, with its accuracy in millimetres too
-pub status-written-reads-back : (format gain accuracy range ramp bandwidth time : ℕ) → statusRefusal (statusNumbers format gain accuracy range ramp bandwidth time) ≡ 0
-    → ReadsBack 5 (statusBytes (statusNumbers format gain accuracy range ramp bandwidth time)) readStatus (statusFields (statusNumbers format gain accuracy range ramp bandwidth time))
+pub status-written-reads-back : (format gain accuracy range ramp bandwidth time : ℕ)
+    → statusRefusal (statusNumbers format gain accuracy range ramp bandwidth time) ≡ 0
+    → ReadsBack 5 (statusBytes (statusNumbers format gain accuracy range ramp bandwidth time)) readStatus
+    (statusFields (statusNumbers format gain accuracy range ramp bandwidth time))
 unfolding readStatus
 status-written-reads-back format gain accuracy range ramp bandwidth time h =
     let vs = statusNumbers format gain accuracy range ramp bandwidth time in
@@ -88,12 +84,9 @@ status-written-reads-back format gain accuracy range ramp bandwidth time h =
     let big : 3 < 5 = omega arith in
     record { judged = unsized-judged 5 vs big most f; reads = rw (unsized-kind 5 vs big most f, unsized-numbers 5 vs big most f) }
 
-status-kind : (bs : List ℕ) → readStatus bs .refusal ≡ 0 → frameKind bs ≡ 5
-unfolding readStatus
-status-kind bs h = eqb-true (frameKind bs) 5 (found (λ (r : StatusFrame). r .refusal) (eqb (frameKind bs) 5) _ _ refl h)
-
 -- a status that is read and written again is the same frame
-pub status-read-writes-back : (bs : List ℕ) → readStatus bs .refusal ≡ 0 → WritesBack 5 (statusRefusal (sentNumbers (readStatus bs))) (statusBytes (sentNumbers (readStatus bs))) bs
+pub status-read-writes-back : (bs : List ℕ) → readStatus bs .refusal ≡ 0
+    → WritesBack 5 (statusRefusal (sentNumbers (readStatus bs))) (statusBytes (sentNumbers (readStatus bs))) bs
 unfolding readStatus values
 status-read-writes-back bs h =
     let k = status-kind bs h in
@@ -109,14 +102,15 @@ unfolding readTargets targetNumbers fit
 targets-written-read-back format gain ts p h =
     let vs = targetNumbers format gain ts in
     let f = not-refused (fit tPieces vs) h in
-    let r : fit (blocks 16) (blockNumbers ts) ≡ true = and-right (isCharacter gain) (fit (blocks 16) (blockNumbers ts)) (and-right (ltb format 16) (isCharacter gain && fit (blocks 16) (blockNumbers ts)) f) in
+    let r : fit (blocks 16) (blockNumbers ts) ≡ true =
+    and-right (isCharacter gain) (fit (blocks 16) (blockNumbers ts))
+    (and-right (ltb format 16) (isCharacter gain && fit (blocks 16) (blockNumbers ts)) f) in
     let most : 4 ≤ 6 = omega arith in
     let big : 3 < 4 = omega arith in
-    record { judged = unsized-judged 4 vs big most f; reads = rw (unsized-kind 4 vs big most f, unsized-numbers 4 vs big most f, targets-numbers 16 ts p r) }
-
-targets-kind : (bs : List ℕ) → readTargets bs .refusal ≡ 0 → frameKind bs ≡ 4
-unfolding readTargets
-targets-kind bs h = eqb-true (frameKind bs) 4 (found (λ (r : TargetFrame). r .refusal) (eqb (frameKind bs) 4) _ _ refl h)
+    record {
+      judged = unsized-judged 4 vs big most f;
+      reads = rw (unsized-kind 4 vs big most f, unsized-numbers 4 vs big most f, targets-numbers 16 ts p r);
+    }
 
 -- the numbers of what a reader gives are those of the frame
 target-numbers : (bs : List ℕ) → frameKind bs ≡ 4 → fit tPieces (values tPieces (drop 2 bs)) ≡ true
@@ -131,7 +125,8 @@ target-numbers bs k h =
 
 -- targets that are read and written again are the same frame but for reserved bytes
 pub targets-read-write-back : (bs : List ℕ) → readTargets bs .refusal ≡ 0
-    → WritesBack 4 (targetsRefusal (readTargets bs .format) (readTargets bs .gain) (readTargets bs .targets)) (targetsBytes (readTargets bs .format) (readTargets bs .gain) (readTargets bs .targets)) bs
+    → WritesBack 4 (targetsRefusal (readTargets bs .format) (readTargets bs .gain) (readTargets bs .targets))
+    (targetsBytes (readTargets bs .format) (readTargets bs .gain) (readTargets bs .targets)) bs
 targets-read-write-back bs h =
     let k = targets-kind bs h in
     let p : 0 < 4 = omega arith in
@@ -177,7 +172,8 @@ pub data-fits : (k : ℕ) (cs : List ℕ) → dataRefusal k cs ≡ 0 → DataFit
 unfolding dataRefusal
 data-fits k cs h = go (isData k) (leb (length cs) 65535) (fit (rPieces (length cs)) (dataNumbers cs)) refl refl refl h
   where
-    go : (a b c : Bool) → isData k ≡ a → leb (length cs) 65535 ≡ b → fit (rPieces (length cs)) (dataNumbers cs) ≡ c → _≡_ {A = ℕ} (cond a (cond b (cond c 0 50) 52) 53) 0 → DataFits k cs
+    go : (a b c : Bool) → isData k ≡ a → leb (length cs) 65535 ≡ b → fit (rPieces (length cs)) (dataNumbers cs) ≡ c
+        → _≡_ {A = ℕ} (cond a (cond b (cond c 0 50) 52) 53) 0 → DataFits k cs
     go true true true x y z e = record { kinds = x; count = leb-true (length cs) 65535 y; fits = z }
     go true true false x y z e = absurd (omega arith)
     go true false c x y z e = absurd (omega arith)
@@ -212,44 +208,48 @@ module _ (k : ℕ) (cs : List ℕ) (d : DataFits k cs) where
   data-part : take (length cs) (drop dataStart (dataBytes k cs)) ≡ cs
   data-part =
       let g = data-of k (dataBytes k cs) low high data-kind in
-      let e : values (rPieces (length cs)) (drop 2 (dataBytes k cs)) ≡ dataNumbers (take (length cs) (drop dataStart (dataBytes k cs))) = rw data-size at (g .numbers) in
+      let e : values (rPieces (length cs)) (drop 2 (dataBytes k cs)) ≡ dataNumbers (take (length cs) (drop dataStart (dataBytes k cs))) =
+      rw data-size at (g .numbers) in
       ap (drop 1) (sym e ∙ data-numbers)
 
 -- data that is written is read back: its kind, and its characters as a part of the frame
 pub data-written-reads-back : (k : ℕ) (cs : List ℕ) → dataRefusal k cs ≡ 0
-    → ReadsBack k (dataBytes k cs) readData (record { refusal = 0; kind = k; start = dataStart; size = length cs }) × (take (length cs) (drop dataStart (dataBytes k cs)) ≡ cs)
+    → ReadsBack k (dataBytes k cs) readData (record {
+      refusal =
+          0;
+      kind = k;
+      start = dataStart;
+      size = length cs;
+    }) × (take (length cs) (drop dataStart (dataBytes k cs)) ≡ cs)
 unfolding readData
 data-written-reads-back k cs h =
     let d = data-fits k cs h in
     (record { judged = data-judged k cs d; reads = rw (data-kind k cs d, d .kinds, data-size k cs d) }, data-part k cs d)
 
--- what a reader that does not refuse has found
-data-found : (bs : List ℕ) → readData bs .refusal ≡ 0 → isData (frameKind bs) ≡ true
-unfolding readData
-data-found bs h = found (λ (r : DataFrame). r .refusal) (isData (frameKind bs)) _ _ refl h
-
-data-read : (bs : List ℕ) → isData (frameKind bs) ≡ true → readData bs ≡ record { refusal = 0; kind = frameKind bs; start = dataStart; size = hexAt 4 2 bs }
-unfolding readData
-data-read bs h = rw h
-
-data-again : (k : ℕ) (bs cs : List ℕ) → isData k ≡ true → frameKind bs ≡ k → length cs ≡ hexAt 4 2 bs → values (rPieces (hexAt 4 2 bs)) (drop 2 bs) ≡ dataNumbers cs
+data-again : (k : ℕ) (bs cs : List ℕ) → isData k ≡ true → frameKind bs ≡ k → length cs ≡ hexAt 4 2 bs
+    → values (rPieces (hexAt 4 2 bs)) (drop 2 bs) ≡ dataNumbers cs
     → WritesBack k (dataRefusal k cs) (dataBytes k cs) bs
 unfolding dataRefusal dataBytes
 data-again k bs cs h f c v =
     let low = data-range k h .0 in
     let high = data-range k h .1 in
     let few : length cs ≤ 65535 = omega (arith, hex-at-below 4 2 bs) in
-    let fits₀ : fit (rPieces (hexAt 4 2 bs)) (values (rPieces (hexAt 4 2 bs)) (drop 2 bs)) ≡ true = rw (le-leb k 3 high) at (numbers-fit k bs low f) in
+    let fits₀ : fit (rPieces (hexAt 4 2 bs)) (values (rPieces (hexAt 4 2 bs)) (drop 2 bs)) ≡ true =
+    rw (le-leb k 3 high) at (numbers-fit k bs low f) in
     let fits₁ : fit (rPieces (length cs)) (dataNumbers cs) ≡ true = rw (← v, c) fits₀ in
-    let bytes : 33 ∷ identifier k ∷ written (rPieces (length cs)) (dataNumbers cs) ≡ frameOf k (hexAt 4 2 bs) (numbersIn k bs) = rw (← v, c, le-leb k 3 high) in
+    let bytes : 33 ∷ identifier k ∷ written (rPieces (length cs)) (dataNumbers cs) ≡ frameOf k (hexAt 4 2 bs) (numbersIn k bs) =
+    rw (← v, c, le-leb k 3 high) in
     record { fits = rw (h, le-leb (length cs) 65535 few, fits₁); same = bytes ∙ written-again k bs low f }
 
 -- data that is read and written again is the same frame but for reserved bytes
 pub data-read-writes-back : (bs : List ℕ) → readData bs .refusal ≡ 0
-    → WritesBack (readData bs .kind) (dataRefusal (readData bs .kind) (partOf (readData bs) bs)) (dataBytes (readData bs .kind) (partOf (readData bs) bs)) bs
+    → WritesBack (readData bs .kind) (dataRefusal (readData bs .kind) (partOf (readData bs) bs))
+    (dataBytes (readData bs .kind) (partOf (readData bs) bs)) bs
 data-read-writes-back bs h = rw (data-read bs (data-found bs h)) (go (data-range (frameKind bs) (data-found bs h)))
   where
-    go : (1 ≤ frameKind bs) × (frameKind bs ≤ 3) → WritesBack (frameKind bs) (dataRefusal (frameKind bs) (take (hexAt 4 2 bs) (drop dataStart bs))) (dataBytes (frameKind bs) (take (hexAt 4 2 bs) (drop dataStart bs))) bs
+    go : (1 ≤ frameKind bs) × (frameKind bs ≤ 3)
+        → WritesBack (frameKind bs) (dataRefusal (frameKind bs) (take (hexAt 4 2 bs) (drop dataStart bs)))
+        (dataBytes (frameKind bs) (take (hexAt 4 2 bs) (drop dataStart bs))) bs
     go (low, high) =
         let k = frameKind bs in
         let g = data-of k bs low high refl in

@@ -46,12 +46,12 @@ blankFrame kind bs = take 2 bs ++ blank (rowIn kind bs) (drop 2 bs)
 
 -- -- The round trips, for any kind of frame
 
--- bytes that are judged whole from first to last with this kind, and that a reader gives these fields of (paper 01, "Refusal numbers": a written frame)
+-- bytes judged whole from first to last with this kind, of which a reader gives these fields (paper 01, "Refusal numbers")
 pub record ReadsBack {A : Type 0} (kind : ℕ) (bytes : List ℕ) (read : List ℕ → A) (fields : A) : Type 0 where
   pub judged : judge sirad 0 bytes ≡ Whole kind (length bytes)
   pub reads : read bytes ≡ fields
 
--- the writer refuses no value that was read, and what it writes is the frame read with every reserved byte as `0` (paper 01, "Refusal numbers")
+-- the writer refuses no value that was read, and writes the frame read with reserved bytes as `0` (paper 01, "Refusal numbers")
 pub record WritesBack (kind refusal : ℕ) (bytes frame : List ℕ) : Type 0 where
   pub fits : refusal ≡ 0
   pub same : bytes ≡ blankFrame kind frame

@@ -1,3 +1,4 @@
 pub mod Values
 pub mod Frames
 pub mod Fields
+pub mod Internal

@@ -1,16 +1,18 @@
 -- Rounding as a predicate and as a closed form: which whole numbers are nearest to a value, and which one the tie rule takes.
--- A whole number either has the value's sign, or the other one and is not 0: along the sign `gap` is a distance of naturals, against it a sum. From there on everything is over ℕ.
+-- A whole number either has the value's sign, or the other one and is not 0: along the sign `gap` is a distance of naturals, against it a
+-- sum. From there on everything is over ℕ.
 use mathlib.Core.Bool.{Bool, true, false, not}
 use mathlib.Core.Path.{_≡_, refl, sym, _∙_, ap}
 use mathlib.Core.Logic.{_↔_, _⊎_, inl, inr}
 use Prim.Native.Nat.{ℕ, zero, suc, _+_, _*_, _/_, _<_, _≤_}
-use native.Mathlib.Nat.{mul-zero, mul-suc, mul-comm, mul-add, mul-left-comm, mul-le-mul-left, le-antisymm, le-div-iff-mul-le, lt-div-mul-add, div-mul-le-self}
+use native.Mathlib.Nat.{mul-zero, mul-suc, mul-comm, mul-add, mul-left-comm, mul-le-mul-left, le-antisymm}
+use native.Mathlib.Nat.{le-div-iff-mul-le, lt-div-mul-add, div-mul-le-self}
 use native.Mathlib.Omega.{arith}
 use lib.Dec.{ltb}
 use borrow.Author.Tests.{ltb-true, ltb-false}
 use lib.IntN.{ℤ, pos, negsuc, negℤ, natAbs, _+ℤ_, _-ℤ_, _*ℤ_, negℤ-negℤ, negℤ-+ℤ}
 use Rattle.digits.proofs.Choices.{test, either}
-use Rattle.units.specs.Rounding.{distance, signed, gap, Nearest, Half, AwayFromZero, nearest}
+use Rattle.units.specs.Rounding.{distance, signed, gap, Nearest, Half, AwayFromZero, Rounds, nearest}
 
 -- -- The gap, over the naturals
 
@@ -129,7 +131,8 @@ module _ (negative : Bool) (n d : ℕ) (h : 0 < d) where
   unfolding Nearest
   nearest-within-half z = (λ near. omega (arith, near (signed negative (nearest n d)), closed-near), λ half y. closer half y (far z y))
     where
-      closer : 2 * gap negative n d z ≤ d → (y : ℤ) → (z ≡ y) ⊎ (d ≤ gap negative n d z + gap negative n d y) → gap negative n d z ≤ gap negative n d y
+      closer : 2 * gap negative n d z ≤ d → (y : ℤ) → (z ≡ y) ⊎ (d ≤ gap negative n d z + gap negative n d y)
+          → gap negative n d z ≤ gap negative n d y
       closer half y (inl e) = rw e (omega arith)
       closer half y (inr apart) = omega arith
 
@@ -176,9 +179,11 @@ module _ (negative : Bool) (n d : ℕ) (h : 0 < d) where
   unfolding AwayFromZero
   away-unique z near away =
       let a = nearest-along z near in
-      let low : nearest n d ≤ a .0 = rw (a .1, natAbs-signed negative (a .0), natAbs-signed negative (nearest n d)) at (away (signed negative (nearest n d)) nearest-is-nearest) in
+      let low : nearest n d ≤ a .0 =
+      rw (a .1, natAbs-signed negative (a .0), natAbs-signed negative (nearest n d))
+      at (away (signed negative (nearest n d)) nearest-is-nearest) in
       a .1 ∙ ap (signed negative) (le-antisymm (a .2) low)
 
   -- nearest and away from zero: exactly the closed form
-  pub rounds-exactly : (z : ℤ) → (Nearest negative n d z × AwayFromZero negative n d z) ↔ (z ≡ signed negative (nearest n d))
+  pub rounds-exactly : (z : ℤ) → Rounds AwayFromZero negative n d z ↔ (z ≡ signed negative (nearest n d))
   rounds-exactly z = (λ both. away-unique z (both .0) (both .1), λ e. rw e (nearest-is-nearest, nearest-away))

@@ -30,6 +30,10 @@ Half n d = (m : ℕ) × (2 * n ≡ d * (2 * m + 1))
 unfoldable pub AwayFromZero : Bool → ℕ → ℕ → ℤ → Type 0
 AwayFromZero negative n d z = (y : ℤ) → Nearest negative n d y → natAbs y ≤ natAbs z
 
+-- z rounds the value: no whole number is closer, and at exact halves it is the one that the tie rule takes
+abbrev pub Rounds : (Bool → ℕ → ℕ → ℤ → Type 0) → Bool → ℕ → ℕ → ℤ → Type 0
+Rounds tie negative n d z = Nearest negative n d z × tie negative n d z
+
 -- the magnitude of the nearest whole number, halves away from zero
 unfoldable pub nearest : ℕ → ℕ → ℕ
 nearest n d = (2 * n + d) / (2 * d)

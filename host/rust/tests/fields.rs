@@ -91,6 +91,7 @@ const WRITTEN_COMMANDS: Run = Run {
         ("write_command, refused 44", 1000),
         ("write_command, refused 45", 1000),
         ("write_command, refused 46", 1000),
+        ("write_command, refused 50", 1000),
         ("write_command, refused 51", 1000),
     ],
 };
@@ -338,7 +339,7 @@ const WRONG_COMMANDS: &[(&str, Wrong)] = &[
             right => right,
         }),
     ),
-    ("RD is lost", Wrong::ReadCommand(|b| Command { rd: false, ..Reference.read_command(b) })),
+    ("RD is lost", Wrong::ReadCommand(|b| Command { rd: 0, ..Reference.read_command(b) })),
     (
         "the header counts as a payload word",
         Wrong::ReadCommand(|b| {
@@ -408,6 +409,32 @@ const WRONG_WRITTEN_COMMANDS: &[(&str, Wrong)] = &[
         "51 goes before 46",
         Wrong::WriteCommand(|output, command| match Reference.write_command(output, command) {
             right if right.refusal == 46 && output.len() < 4 * (command.count as usize + 1) => refused(51),
+            right => right,
+        }),
+    ),
+    (
+        "an RD that is not 0 is RD",
+        Wrong::WriteCommand(|output, command| {
+            Reference.write_command(output, Command { rd: command.rd.min(1), ..command })
+        }),
+    ),
+    (
+        "RD is the lowest bit",
+        Wrong::WriteCommand(|output, command| {
+            Reference.write_command(output, Command { rd: command.rd & 1, ..command })
+        }),
+    ),
+    (
+        "50 goes before 46",
+        Wrong::WriteCommand(|output, command| match Reference.write_command(output, command) {
+            right if right.refusal == 46 && command.rd > 1 => refused(50),
+            right => right,
+        }),
+    ),
+    (
+        "51 goes before 50",
+        Wrong::WriteCommand(|output, command| match Reference.write_command(output, command) {
+            right if right.refusal == 50 && output.len() < 4 * (command.count as usize + 1) => refused(51),
             right => right,
         }),
     ),

@@ -49,8 +49,8 @@ payload-requires c κs =
     let same : c .length-of .result ≡ lengthOf (headerOf bs) = c .length-of .ensures ∙ ap lengthOf (w .word-at .ensures) in
     (omega arith, omega arith)
 
-legal-requires : tie.Need-legal-requires
-legal-requires c κs = search needs
+command-refusal-requires : tie.Need-command-refusal-requires
+command-refusal-requires c κs = search needs
 
 refused-requires-2 : tie.Need-refused-requires-2
 refused-requires-2 c κs = search needs
@@ -65,7 +65,8 @@ returns-2 c =
     let f = w .before .before in
     c .refused2 .ensures
     ∙ read-illegal (f .before .before .args .bytes .now) _ _ _ _ _ (sym (f .framing-of .ensures) ∙ w .before .if1 .left)
-    (w .word-at .ensures) (k .code-of .ensures) (ap (λ (m : ℕ). m - 1) (n .length-of .ensures)) (p .payload .ensures) (l .legal .ensures .0) (c .before .if2 .taken)
+    (w .word-at .ensures) (k .code-of .ensures) (ap (λ (m : ℕ). m - 1) (n .length-of .ensures))
+    (p .payload .ensures) (l .command-refusal .ensures .0) (c .before .if2 .taken)
 
 rd-of-requires : tie.Need-rd-of-requires
 rd-of-requires c κs = search needs
@@ -79,7 +80,8 @@ returns-3 c =
     let w = k .before in
     let f = w .before .before in
     read-done (f .before .before .args .bytes .now) _ _ _ _ _ (sym (f .framing-of .ensures) ∙ w .before .if1 .left)
-    (w .word-at .ensures) (k .code-of .ensures) (ap (λ (m : ℕ). m - 1) (n .length-of .ensures)) (p .payload .ensures) (l .legal .ensures .0) _
+    (w .word-at .ensures) (k .code-of .ensures) (ap (λ (m : ℕ). m - 1) (n .length-of .ensures))
+    (p .payload .ensures) (l .command-refusal .ensures .0) _
     (c .rd-of .ensures) (c .before .if2 .left)
 
 pub read-command-spec : {M : Type 1} → statement M
@@ -95,7 +97,7 @@ read-command-spec =
     sub-count
     cast-payload
     payload-requires
-    legal-requires
+    command-refusal-requires
     refused-requires-2
     returns-2
     rd-of-requires

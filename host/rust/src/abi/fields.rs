@@ -2,7 +2,7 @@
 
 use crate::demorad::{self, MAX_PAYLOAD};
 use crate::packet;
-use crate::refusal::{Refusal, NOT_ONE_FRAME};
+use crate::refusal::{Refusal, NOT_ONE_FRAME, NO_ENCODING};
 use crate::sirad::{BLOCKS, CFAR, RANGE};
 use crate::sirad_fields;
 
@@ -59,13 +59,13 @@ pub struct Point {
     pub doppler: u32,
 }
 
-/// `struct vq_command`.
+/// `struct vq_command`: RD is 0 or 1; a host may hand over any number.
 #[repr(C)]
 #[derive(Clone, Copy, Debug, Default, PartialEq, Eq)]
 #[allow(missing_docs)]
 pub struct Command {
     pub refusal: u32,
-    pub rd: bool,
+    pub rd: u32,
     pub code: u32,
     pub count: u32,
     pub words: [u32; MAX_PAYLOAD],
@@ -235,7 +235,7 @@ impl FieldSubject for Reference {
     fn read_command(&self, bytes: &[u8]) -> Command {
         let answer = demorad::read(bytes).map(|command| Command {
             refusal: 0,
-            rd: command.rd,
+            rd: u32::from(command.rd),
             code: command.code,
             count: command.count as u32,
             words: command.words,
@@ -245,7 +245,12 @@ impl FieldSubject for Reference {
 
     fn write_command(&self, output: &mut [u8], command: Command) -> Written {
         let Command { rd, code, count, words, .. } = command;
-        written(demorad::write(&demorad::Command { rd, code, count: count as usize, words }, output))
+        let command = demorad::Command { rd: rd == 1, code, count: count as usize, words };
+        // Any other RD has no encoding; 44, 45 and 46 go before it and need no output, 51 behind it.
+        written(match rd {
+            0 | 1 => demorad::write(&command, output),
+            _ => demorad::write(&command, &mut [0; 4 * (MAX_PAYLOAD + 1)]).and(Err(NO_ENCODING)),
+        })
     }
 
     fn read_data(&self, frame: &[u8]) -> DataFrame {
@@ -345,6 +350,16 @@ mod tests {
         assert_eq!((size_of::<StatusFrame>(), offset_of!(StatusFrame, accuracy)), (20, 6));
         assert_eq!((size_of::<ErrorFrame>(), offset_of!(ErrorFrame, flags)), (8, 4));
         assert_eq!((size_of::<Written>(), offset_of!(Written, size)), (16, 8));
+    }
+
+    #[test]
+    fn an_rd_without_an_encoding_goes_behind_46_and_before_51() {
+        let command = Command { rd: 2, code: 0x6006, count: 1, ..Command::default() };
+        let refusal = |command: Command| Reference.write_command(&mut [], command).refusal;
+        assert_eq!((refusal(command), refusal(Command { rd: 1, ..command })), (50, 51));
+        assert_eq!(refusal(Command { rd: 1 << 31, words: [5; MAX_PAYLOAD], ..command }), 46);
+        assert_eq!(refusal(Command { rd: u32::MAX, count: 2, ..command }), 45);
+        assert_eq!(refusal(Command { rd: 3, code: 0x6009, ..command }), 44);
     }
 
     #[test]

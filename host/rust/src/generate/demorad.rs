@@ -25,17 +25,18 @@ const RULES: [Rule; 7] = [
     rule(0x9017, 2, 30, Some((1, 3))),
 ];
 
-/// Values to be written: words behind the count are any.
+/// Values to be written: words behind the count are any, and RD is a number, as C has it.
 #[derive(Clone, Copy, Debug, PartialEq, Eq)]
 #[allow(missing_docs)]
 pub struct Values {
-    pub rd: bool,
+    pub rd: u32,
     pub code: u32,
     pub count: u32,
     pub words: [u32; 30],
 }
 
-/// Values with an encoding, or near misses: another code, count or selection, or two of them at once.
+/// Values with an encoding, or near misses: another code, count or selection, or two of them at once, and an RD that is no
+/// flag.
 pub fn values(random: &mut Random) -> Values {
     let Rule { code, least, most, selection } = random.pick(&RULES);
     let count = if random.once_in(4) { random.pick(&[least, most]) } else { random.within(least, most) };
@@ -46,7 +47,10 @@ pub fn values(random: &mut Random) -> Values {
     if let Some((index, top)) = selection {
         words[index] = random.below(top as usize + 1) as u32;
     }
-    let mut values = Values { rd: random.once_in(2), code, count: count as u32, words };
+    let mut values = Values { rd: random.below(2) as u32, code, count: count as u32, words };
+    if random.once_in(6) {
+        values.rd = random.pick(&[2, 3, 256, 257, 0x0100_0000, 0x8000_0000, 0x8000_0001, u32::MAX]);
+    }
     for _ in 0..random.pick(&[0, 0, 0, 1, 1, 2]) {
         spoil(random, &mut values, selection);
     }
@@ -84,7 +88,7 @@ fn spoil(random: &mut Random, values: &mut Values, selection: Option<(usize, u32
 pub fn bytes(random: &mut Random) -> Vec<u8> {
     let values = values(random);
     let payload = &values.words[..(values.count as usize).min(30)];
-    let mut header = u32::from(values.rd) << 31 | (payload.len() as u32 + 1) << 16 | values.code & 0xFFFF;
+    let mut header = values.rd << 31 | (payload.len() as u32 + 1) << 16 | values.code & 0xFFFF;
     let mut rest: Vec<u8> = payload.iter().flat_map(|word| word.to_le_bytes()).collect();
     for _ in 0..random.pick(&[0, 0, 0, 1, 1, 2]) {
         match random.below(6) {
@@ -112,20 +116,24 @@ mod tests {
     #[test]
     fn each_code_and_each_refusal_comes() {
         let mut random = Random::new(1);
-        let (mut codes, mut refusals) = (Vec::new(), Vec::new());
+        let (mut codes, mut refusals, mut flags) = (Vec::new(), Vec::new(), Vec::new());
         for _ in 0..5000 {
             match read(&bytes(&mut random)) {
                 Ok(command) => codes.push(command.code),
                 Err(refusal) => refusals.push(refusal),
             }
             let Values { rd, code, count, words } = values(&mut random);
-            refusals.extend(write(&Command { rd, code, count: count as usize, words }, &mut []).err());
+            refusals.extend(write(&Command { rd: rd == 1, code, count: count as usize, words }, &mut []).err());
+            flags.push(rd);
         }
         for Rule { code, .. } in RULES {
             assert!(codes.iter().filter(|&&read| read == code).count() > 50, "{code:04X}");
         }
         for refusal in [40, 41, 42, 43, 44, 45, 46, 51] {
             assert!(refusals.iter().filter(|&&given| given == refusal).count() > 50, "{refusal}");
+        }
+        for flag in [0, 1, 2, 256, 0x8000_0000, u32::MAX] {
+            assert!(flags.iter().filter(|&&given| given == flag).count() > 50, "{flag}");
         }
     }
 }

@@ -6,8 +6,8 @@ use borrow.Author.Tests.{not-true, not-false}
 use Rattle.demorad.specs.declared.Rule.{Rule}
 use Rattle.demorad.proofs.RuleLaws.{by-rule, index-small, judged-unknown, judged-few, judged-many, judged-free, judged-out, judged-in}
 use borrow.Author.Needs.{needs}
-use Rattle.demorad.proofs.legal.Statement.{statement}
-use Rattle.demorad.proofs.legal.Tie as tie
+use Rattle.demorad.proofs.command_refusal.Statement.{statement}
+use Rattle.demorad.proofs.command_refusal.Tie as tie
 
 rule-of-requires : tie.Need-rule-of-requires
 rule-of-requires c κs = search needs
@@ -86,8 +86,8 @@ returns-6 c =
       search needs,
     )
 
-pub legal-spec : {M : Type 1} → statement M
-legal-spec =
+pub command-refusal-spec : {M : Type 1} → statement M
+command-refusal-spec =
     tie.close
     (tie.spec
     rule-of-requires
