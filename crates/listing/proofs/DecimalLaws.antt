@@ -13,7 +13,7 @@ use lib.Pow.{pow-add}
 use Rattle.digits.specs.Stores.{stored}
 use Rattle.digits.proofs.StoreLaws.{stored-append, stored-one, set-behind}
 use Rattle.listing.specs.Decimal.{decimals, width, decimal, figure, tensFrom, Fewest}
-use Rattle.listing.specs.Puts.{Puts}
+use Rattle.listing.specs.Internal.{Puts}
 
 -- -- Lengths
 

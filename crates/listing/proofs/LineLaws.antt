@@ -11,8 +11,8 @@ use Rattle.digits.proofs.StoreLaws.{stored-nil, stored-append}
 use Rattle.reading.specs.Reading.{flat}
 use Rattle.reading.specs.declared.Row.{Row}
 use Rattle.listing.specs.Decimal.{decimal}
-use Rattle.listing.specs.Lines.{letter, field, fields, rowLine, rowLines, tableLines, endLine, firstOf, lineFeed}
-use Rattle.listing.specs.Puts.{Puts}
+use Rattle.listing.specs.Lines.{letter, field, fields, rowLine, rowLines, endLine, lineFeed}
+use Rattle.listing.specs.Internal.{Puts, tableLines, firstOf}
 use Rattle.listing.proofs.PutLaws.{puts-then}
 use Rattle.listing.proofs.DecimalLaws.{width-most, length-decimal}
 

@@ -22,9 +22,9 @@ use Rattle.capture.specs.declared.Asked.the-variants.{Known}
 use Rattle.capture.specs.declared.Dialect.{Dialect}
 use Rattle.capture.specs.declared.Dialect.the-variants.{Sirad, Mmwave}
 use Rattle.capture.proofs.Wires.{lawful-of}
-use Rattle.listing.specs.Lines.{headerLine, rowLine, rowLines, tableLines, endLine, refusedLine}
-use Rattle.listing.specs.Listing.{closedReading, listed, listing, outputRefusal, dialectNumber, maxInput, textRoom, Lists}
-use Rattle.listing.specs.Puts.{Puts}
+use Rattle.listing.specs.Lines.{headerLine, rowLine, rowLines, endLine, refusedLine}
+use Rattle.listing.specs.Listing.{closedReading, listed, listing, outputRefusal, dialectNumber, maxInput, Lists}
+use Rattle.listing.specs.Internal.{Puts, tableLines, textRoom}
 use Rattle.listing.proofs.PutLaws.{puts-length}
 use Rattle.listing.proofs.LineLaws.{lines-of-rows, row-most, end-most, table-most}
 use Rattle.listing.proofs.RoomLaws.{rows-in-bytes, room-enough}

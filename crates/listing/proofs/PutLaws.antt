@@ -9,7 +9,7 @@ use lib.ListN.{length, drop, getD, set, length-append, drop-of-length-le}
 use Rattle.digits.specs.Stores.{stored}
 use Rattle.digits.proofs.Lists.{drop-one}
 use Rattle.digits.proofs.StoreLaws.{stored-nil, stored-one, length-stored, then}
-use Rattle.listing.specs.Puts.{Puts}
+use Rattle.listing.specs.Internal.{Puts}
 
 -- two pieces: the first, then the second behind it
 pub puts-then : {xs ys l l′ l″ : List ℕ} {at m r : ℕ} → Puts xs l at m l′ → Puts ys l′ m r l″ → Puts (xs ++ ys) l at r l″

@@ -7,11 +7,10 @@ ghost use mathlib.Core.List.{[], _∷_, _++_};
 ghost use Prim.Native.Nat.{_+_, _*_, _≤_, _<_};
 ghost use lib.ListN.{length, drop};
 ghost use Rattle.listing.specs.Decimal.{decimal, width};
-ghost use Rattle.listing.specs.Lines.{letter, field, fields, headerLine, rowLine, tableLines, endLine, firstOf};
-ghost use Rattle.listing.specs.Puts.{Puts};
-ghost use Rattle.listing.specs.Zeros.{Zeros};
-ghost use Rattle.listing.specs.Gather.{Appends, Gathers};
-ghost use Rattle.listing.specs.Listing.{listed, textRoom, dialectNumber, Lists};
+ghost use Rattle.listing.specs.Lines.{letter, field, fields, headerLine, rowLine, endLine};
+ghost use Rattle.listing.specs.Gather.{Gathers, Lent};
+ghost use Rattle.listing.specs.Listing.{listed, dialectNumber, Lists};
+ghost use Rattle.listing.specs.Internal.{Puts, Zeros, Appends, Within, tableLines, firstOf, textRoom};
 
 // The most bytes of input that are listed.
 pub const MAX_INPUT: usize = 65536;
@@ -30,21 +29,34 @@ const TABLE_ROOM: usize = 24576;
 
 const STANDARD_INPUT: i32 = 0;
 
+const STANDARD_OUTPUT: i32 = 1;
+
+const STANDARD_ERROR: i32 = 2;
+
+// How often in a row a signal may interrupt a read or a write; then it counts as failed.
+const MOST_TRIES: u32 = 1000000;
+
 const TAB: u8 = 9;
 
 const LINE_FEED: u8 = 10;
 
+// What standard input gave: so many bytes, or a read failed.
+pub enum Input {
+    Read(usize),
+    Failed,
+}
+
 // -- Buffers
 
 // Zeros for the input.
-pub fn input_buffer() -> [u8; INPUT_ROOM]
+fn input_buffer() -> [u8; INPUT_ROOM]
     ensures { λ r. ⌜ Zeros 65537 r ⌝ }
 {
     [0; INPUT_ROOM]
 }
 
 // Zeros for the text of any listing.
-pub fn text_buffer() -> [u8; TEXT_ROOM]
+fn text_buffer() -> [u8; TEXT_ROOM]
     ensures { λ r. ⌜ Zeros 196652 r ⌝ }
 {
     [0; TEXT_ROOM]
@@ -282,18 +294,105 @@ fn append(buffer: &mut [u8], size: usize, block: &[u8], got: usize) -> usize
     put_text(buffer, size, &block[..n])
 }
 
-// Reads standard input, block by block, into the buffer until it ends or the buffer is full, and answers how many bytes there are.
-// Fewer bytes than the block holds are not the end; none are, and so is a read that fails.
-pub fn gather(block: &mut [u8], buffer: &mut [u8]) -> usize
-    ensures { λ r. ⌜ Gathers (now (buffer .entry)) r (now (buffer .exit)) × (length (now (block .exit)) ≡ length (now (block .entry))) ⌝ }
+// One read into the block, tried again where a signal interrupts it.
+fn read_block(block: &mut [u8]) -> Input
+    ensures { λ r. ⌜ Within r (now (block .exit)) × (length (now (block .exit)) ≡ length (now (block .entry))) ⌝ }
 {
+    let mut tries: u32 = 0;
+    while tries < MOST_TRIES {
+        let answer = libc::read(STANDARD_INPUT, block);
+        if 0 <= answer {
+            let got = io::count(answer, block);
+            return Input::Read(got);
+        }
+        if os::errno() != libc::EINTR {
+            return Input::Failed;
+        }
+        tries = tries + 1;
+    }
+    Input::Failed
+}
+
+// Reads standard input, block by block, into the buffer until it ends or the buffer is full, and answers how many bytes there are.
+// Fewer bytes than the block holds are not the end; none are. An empty block can take none, so no read can succeed with it.
+pub fn gather(block: &mut [u8], buffer: &mut [u8]) -> Input
+    ensures { λ r. ⌜ Gathers (now (block .entry)) (now (buffer .entry)) r (now (block .exit)) (now (buffer .exit)) ⌝ }
+{
+    if block.len() == 0 {
+        return Input::Failed;
+    }
     let mut size: usize = 0;
     while size < buffer.len() {
-        let got = io::count(libc::read(STANDARD_INPUT, block), block);
+        let input = read_block(block);
+        let Input::Read(got) = input else {
+            return Input::Failed;
+        };
         if got == 0 {
-            return size;
+            return Input::Read(size);
         }
         size = append(buffer, size, block, got);
     }
-    size
+    Input::Read(size)
+}
+
+// -- Standard output
+
+// One write, tried again where a signal interrupts it; answers how many of the first bytes were taken, 0 where it fails.
+fn write_part(fd: i32, text: &[u8]) -> usize
+    ensures { λ r. ⌜ r ≤ length (now (text .entry)) ⌝ }
+{
+    let mut tries: u32 = 0;
+    while tries < MOST_TRIES {
+        let answer = libc::write(fd, text);
+        if 0 <= answer {
+            return io::count(answer, text);
+        }
+        if os::errno() != libc::EINTR {
+            return 0;
+        }
+        tries = tries + 1;
+    }
+    0
+}
+
+// Writes the whole text, part by part, and answers whether it could.
+fn write_whole(fd: i32, text: &[u8]) -> bool {
+    let mut at: usize = 0;
+    while at < text.len() {
+        let taken = write_part(fd, &text[at..]);
+        if taken == 0 {
+            return false;
+        }
+        at = at + taken;
+    }
+    true
+}
+
+// Says on standard error what a program can't do.
+fn complain(program: &[u8], what: &[u8]) {
+    write_whole(STANDARD_ERROR, program);
+    write_whole(STANDARD_ERROR, what);
+}
+
+// -- The programs
+
+// Lists standard input on standard output, reading it by the block.
+// Where a read fails nothing is listed, so that no part of a capture is taken for the whole; a line on standard error says so, and also where a write fails.
+pub fn list_input(program: &[u8], block: &mut [u8], d: Dialect)
+    ensures { λ _. ⌜ Lent (now (block .entry)) (now (block .exit)) ⌝ }
+{
+    let mut buffer = input_buffer();
+    let mut text = text_buffer();
+    let input = gather(block, &mut buffer);
+    let Input::Read(size) = input else {
+        complain(program, b": standard input cannot be read\n");
+        return;
+    };
+    let written = write_listing(&buffer[..size], &mut text, d);
+    let end = written.size;
+    let printed = write_whole(STANDARD_OUTPUT, &text[..end]);
+    if printed {
+        return;
+    }
+    complain(program, b": standard output cannot be written\n");
 }
