@@ -5,7 +5,7 @@ use Prim.Native.Nat.{ℕ, zero, suc, _+_, _-_, _<_, _≤_}
 use lib.ListN.{length, take, drop, getD, replicate}
 use Rattle.digits.specs.Stores.{stored}
 use Rattle.reading.specs.declared.Row.{Row}
-use Rattle.listing.specs.Lines.{rowLine}
+use Rattle.listing.specs.Lines.{headerLine, rowLine, endLine}
 use Rattle.listing.specs.declared.Input.{Input}
 use Rattle.listing.specs.declared.Input.the-variants.{Read, Failed}
 
@@ -37,6 +37,10 @@ firstOf table = record { offset = getD table 0 0; size = getD table 1 0; kind = 
 unfoldable pub tableLines : ℕ → List ℕ → List ℕ
 tableLines zero table = []
 tableLines (suc n) table = rowLine (firstOf table) ++ tableLines n (drop 3 table)
+
+-- the text of the first n rows of a table: the first line, the rows' lines, the last line
+unfoldable pub tableText : ℕ → List ℕ → ℕ → ℕ → List ℕ
+tableText n table size skipped = headerLine ++ (tableLines n table ++ endLine size skipped)
 
 -- -- Standard input
 

@@ -3,14 +3,15 @@
 use capture::Dialect;
 use digits::Written;
 ghost use mathlib.Core.Path.{_≡_};
-ghost use mathlib.Core.List.{[], _∷_, _++_};
+ghost use mathlib.Core.List.{[], _∷_};
 ghost use Prim.Native.Nat.{_+_, _*_, _≤_, _<_};
 ghost use lib.ListN.{length, drop};
+ghost use Rattle.digits.specs.Stores.{Writes};
 ghost use Rattle.listing.specs.Decimal.{decimal, width};
-ghost use Rattle.listing.specs.Lines.{letter, field, fields, headerLine, rowLine, endLine};
+ghost use Rattle.listing.specs.Lines.{letter, field, fields, rowLine, endLine};
 ghost use Rattle.listing.specs.Gather.{Gathers, Lent};
-ghost use Rattle.listing.specs.Listing.{listed, dialectNumber, Lists};
-ghost use Rattle.listing.specs.Internal.{Puts, Zeros, Appends, Within, tableLines, firstOf, textRoom};
+ghost use Rattle.listing.specs.Listing.{listed, listing, dialectNumber};
+ghost use Rattle.listing.specs.Internal.{Puts, Zeros, Appends, Within, tableLines, tableText, firstOf, textRoom};
 
 // The most bytes of input that are listed.
 pub const MAX_INPUT: usize = 65536;
@@ -78,7 +79,7 @@ fn least(a: usize, b: usize) -> usize
     b
 }
 
-// -- Text
+// -- Text, and how long it is
 
 // Puts one byte into the buffer.
 fn put_byte(out: &mut [u8], at: usize, b: u8) -> usize
@@ -136,9 +137,52 @@ fn width_of(v: u32) -> usize
     10
 }
 
+// How many bytes two numbers take to the end of a line: two tabs, their digits, a line feed.
+fn fields_size(a: u32, b: u32) -> usize
+    ensures { λ r. ⌜ r ≡ length (fields a b) ⌝ }
+{
+    3 + width_of(a) + width_of(b)
+}
+
+// How many bytes the line of the row takes that starts at an index of the table.
+fn row_size(table: &[u32], index: usize) -> usize
+    requires { ⌜ index + 3 ≤ length (now table) ⌝ }
+    ensures { λ r. ⌜ r ≡ length (rowLine (firstOf (drop index (now (table .entry))))) ⌝ }
+{
+    1 + fields_size(table[index], table[index + 1])
+}
+
+// How many bytes the lines of the first rows of the table take.
+fn rows_size(table: &[u32], rows: usize) -> usize
+    requires { ⌜ rows ≤ 8192 ⌝ }
+    requires { ⌜ 3 * rows ≤ length (now table) ⌝ }
+    ensures { λ r. ⌜ r ≡ length (tableLines rows (now (table .entry))) ⌝ }
+{
+    let mut size: usize = 0;
+    let mut i: usize = 0;
+    while i < rows {
+        let index = 3 * i;
+        let more = row_size(table, index);
+        size = size + more;
+        i = i + 1;
+    }
+    size
+}
+
+// How many bytes the text of the table takes: the first line has 18, and the word `end` 3.
+fn text_size(table: &[u32], rows: usize, size: u32, skipped: u32) -> usize
+    requires { ⌜ rows ≤ 8192 ⌝ }
+    requires { ⌜ 3 * rows ≤ length (now table) ⌝ }
+    ensures { λ r. ⌜ r ≡ length (tableText rows (now (table .entry)) size skipped) ⌝ }
+{
+    let lines = rows_size(table, rows);
+    let last = fields_size(size, skipped);
+    21 + lines + last
+}
+
 // Puts a number in decimal, its last digit first.
 fn put_decimal(out: &mut [u8], at: usize, v: u32) -> usize
-    requires { ⌜ at + 10 ≤ length (now out) ⌝ }
+    requires { ⌜ at + length (decimal v) ≤ length (now out) ⌝ }
     ensures { λ r. ⌜ Puts (decimal v) (now (out .entry)) at r (now (out .exit)) ⌝ }
 {
     let n = width_of(v);
@@ -153,7 +197,7 @@ fn put_decimal(out: &mut [u8], at: usize, v: u32) -> usize
 }
 
 fn put_field(out: &mut [u8], at: usize, v: u32) -> usize
-    requires { ⌜ at + 11 ≤ length (now out) ⌝ }
+    requires { ⌜ at + length (field v) ≤ length (now out) ⌝ }
     ensures { λ r. ⌜ Puts (field v) (now (out .entry)) at r (now (out .exit)) ⌝ }
 {
     let digits = put_byte(out, at, TAB);
@@ -161,7 +205,7 @@ fn put_field(out: &mut [u8], at: usize, v: u32) -> usize
 }
 
 fn put_fields(out: &mut [u8], at: usize, a: u32, b: u32) -> usize
-    requires { ⌜ at + 23 ≤ length (now out) ⌝ }
+    requires { ⌜ at + length (fields a b) ≤ length (now out) ⌝ }
     ensures { λ r. ⌜ Puts (fields a b) (now (out .entry)) at r (now (out .exit)) ⌝ }
 {
     let second = put_field(out, at, a);
@@ -187,8 +231,8 @@ fn letter_of(kind: u32) -> u8
 
 // Puts the line of the row that starts at an index of the table.
 fn put_row(out: &mut [u8], at: usize, table: &[u32], index: usize) -> usize
-    requires { ⌜ at + 24 ≤ length (now out) ⌝ }
     requires { ⌜ index + 3 ≤ length (now table) ⌝ }
+    requires { ⌜ at + length (rowLine (firstOf (drop index (now table)))) ≤ length (now out) ⌝ }
     ensures { λ r. ⌜ Puts (rowLine (firstOf (drop index (now (table .entry))))) (now (out .entry)) at r (now (out .exit)) ⌝ }
 {
     let kind = letter_of(table[index + 2]);
@@ -198,8 +242,8 @@ fn put_row(out: &mut [u8], at: usize, table: &[u32], index: usize) -> usize
 
 // Puts the lines of the first rows of the table.
 fn put_rows(out: &mut [u8], from: usize, table: &[u32], rows: usize) -> usize
-    requires { ⌜ from + 24 * rows ≤ length (now out) ⌝ }
     requires { ⌜ 3 * rows ≤ length (now table) ⌝ }
+    requires { ⌜ from + length (tableLines rows (now table)) ≤ length (now out) ⌝ }
     ensures { λ r. ⌜ Puts (tableLines rows (now (table .entry))) (now (out .entry)) from r (now (out .exit)) ⌝ }
 {
     let mut at = from;
@@ -213,7 +257,7 @@ fn put_rows(out: &mut [u8], from: usize, table: &[u32], rows: usize) -> usize
 }
 
 fn put_end(out: &mut [u8], at: usize, size: u32, skipped: u32) -> usize
-    requires { ⌜ at + 26 ≤ length (now out) ⌝ }
+    requires { ⌜ at + length (endLine size skipped) ≤ length (now out) ⌝ }
     ensures { λ r. ⌜ Puts (endLine size skipped) (now (out .entry)) at r (now (out .exit)) ⌝ }
 {
     let numbers = put_text(out, at, b"end");
@@ -234,52 +278,82 @@ fn number_of(d: Dialect) -> u32
 
 // Puts the first line, the lines of the table's rows, and the last line.
 fn put_all(out: &mut [u8], table: &[u32], rows: usize, size: u32, skipped: u32) -> usize
-    requires { ⌜ 44 + 24 * rows ≤ length (now out) ⌝ }
     requires { ⌜ 3 * rows ≤ length (now table) ⌝ }
-    ensures { λ r. ⌜ Puts (headerLine ++ (tableLines rows (now (table .entry)) ++ endLine size skipped)) (now (out .entry)) 0 r (now (out .exit)) ⌝ }
+    requires { ⌜ length (tableText rows (now table) size skipped) ≤ length (now out) ⌝ }
+    ensures { λ r. ⌜ Puts (tableText rows (now (table .entry)) size skipped) (now (out .entry)) 0 r (now (out .exit)) ⌝ }
 {
     let first = put_text(out, 0, b"kind\tplace\tlength\n");
     let last = put_rows(out, first, table, rows);
     put_end(out, last, size, skipped)
 }
 
-// Puts the listing of an input within the limit.
-fn put_listing(bytes: &[u8], out: &mut [u8], d: Dialect) -> usize
+// Writes a text at the start of the buffer.
+fn write_text(out: &mut [u8], text: &[u8]) -> Written
+    ensures { λ r. ⌜ Writes 0 (now (text .entry)) (now (out .entry)) r (now (out .exit)) ⌝ }
+{
+    if out.len() < text.len() {
+        return Written {
+            refusal: OUTPUT_TOO_SHORT,
+            size: 0,
+        };
+    }
+    let size = put_text(out, 0, text);
+    Written {
+        refusal: 0,
+        size: size,
+    }
+}
+
+// Writes the text of a table: it is measured first, since a refusal writes nothing.
+fn write_table(out: &mut [u8], table: &[u32], rows: usize, size: u32, skipped: u32) -> Written
+    requires { ⌜ rows ≤ 8192 ⌝ }
+    requires { ⌜ 3 * rows ≤ length (now table) ⌝ }
+    ensures { λ r. ⌜ Writes 0 (tableText rows (now (table .entry)) size skipped) (now (out .entry)) r (now (out .exit)) ⌝ }
+{
+    if out.len() < text_size(table, rows, size, skipped) {
+        return Written {
+            refusal: OUTPUT_TOO_SHORT,
+            size: 0,
+        };
+    }
+    let end = put_all(out, table, rows, size, skipped);
+    Written {
+        refusal: 0,
+        size: end,
+    }
+}
+
+// Writes the lines of the closed reading of an input within the limit.
+fn write_listed(bytes: &[u8], out: &mut [u8], d: Dialect) -> Written
     requires { ⌜ length (now bytes) ≤ 65536 ⌝ }
-    requires { ⌜ textRoom ≤ length (now out) ⌝ }
-    ensures { λ r. ⌜ Puts (listed d (now (bytes .entry))) (now (out .entry)) 0 r (now (out .exit)) ⌝ }
+    ensures { λ r. ⌜ Writes 0 (listed d (now (bytes .entry))) (now (out .entry)) r (now (out .exit)) ⌝ }
 {
     let mut table = row_table();
     let number = number_of(d);
     let a = capture::closed_reading(number, bytes, &mut table);
     let size = bytes.len() as u32;
     let skipped = a.skipped as u32;
-    put_all(out, &table, a.rows, size, skipped)
+    write_table(out, &table, a.rows, size, skipped)
 }
 
 // Writes what a listing program prints for these bytes: the closed reading, one line for each frame, or `refused`, tab, `4` for over 65,536 bytes.
 // For the 9 bytes `!E0000`, CR, LF, space it is `kind`, tab, `place`, tab, `length`; `E`, tab, `0`, tab, `8`; `end`, tab, `9`, tab, `1`.
 pub fn write_listing(bytes: &[u8], out: &mut [u8], d: Dialect) -> Written
-    ensures { λ r. ⌜ Lists d (now (bytes .entry)) (now (out .entry)) r (now (out .exit)) ⌝ }
+    ensures { λ r. ⌜ Writes 0 (listing d (now (bytes .entry))) (now (out .entry)) r (now (out .exit)) ⌝ }
 {
-    if out.len() < TEXT_ROOM {
-        return Written {
-            refusal: OUTPUT_TOO_SHORT,
-            size: 0,
-        };
-    }
     if MAX_INPUT < bytes.len() {
-        let size = put_text(out, 0, b"refused\t4\n");
-        return Written {
-            refusal: 0,
-            size: size,
-        };
+        return write_text(out, b"refused\t4\n");
     }
-    let size = put_listing(bytes, out, d);
-    Written {
-        refusal: 0,
-        size: size,
-    }
+    write_listed(bytes, out, d)
+}
+
+// Puts the listing into a buffer that holds every listing, and answers its length.
+fn put_listing(bytes: &[u8], out: &mut [u8], d: Dialect) -> usize
+    requires { ⌜ textRoom ≤ length (now out) ⌝ }
+    ensures { λ r. ⌜ Puts (listing d (now (bytes .entry))) (now (out .entry)) 0 r (now (out .exit)) ⌝ }
+{
+    let written = write_listing(bytes, out, d);
+    written.size
 }
 
 // -- Standard input
@@ -388,8 +462,7 @@ pub fn list_input(program: &[u8], block: &mut [u8], d: Dialect)
         complain(program, b": standard input cannot be read\n");
         return;
     };
-    let written = write_listing(&buffer[..size], &mut text, d);
-    let end = written.size;
+    let end = put_listing(&buffer[..size], &mut text, d);
     let printed = write_whole(STANDARD_OUTPUT, &text[..end]);
     if printed {
         return;

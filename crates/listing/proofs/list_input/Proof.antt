@@ -1,5 +1,9 @@
 -- `listing::list_input` meets its contract: the bytes gathered are bytes of the buffer, and the block keeps its length.
+use mathlib.Core.Path.{sym}
+use native.Mathlib.Omega.{arith}
+use lib.Seq.{length-take-le}
 use Rattle.listing.proofs.GatherLaws.{read-counts}
+use Rattle.listing.proofs.ListingLaws.{listing-ends}
 use borrow.Author.Needs.{needs}
 use Rattle.listing.proofs.list_input.Statement.{statement}
 use Rattle.listing.proofs.list_input.Tie as tie
@@ -37,20 +41,20 @@ returns c = search needs
 array-share-prefix-buffer : tie.Need-array-share-prefix-buffer
 array-share-prefix-buffer c = read-counts (c .before .before .before .before .before .before .gather .ensures) (c .before .input .given .1) .0
 
-slice-aggregate-write-listing : tie.Need-slice-aggregate-write-listing
-slice-aggregate-write-listing c = read-counts (c .before .before .before .before .before .before .before .gather .ensures) (c .before .before .input .given .1) .1
+slice-aggregate-put-listing : tie.Need-slice-aggregate-put-listing
+slice-aggregate-put-listing c = read-counts (c .before .before .before .before .before .before .before .gather .ensures) (c .before .before .input .given .1) .1
 
-slice-aggregate-write-listing-2 : tie.Need-slice-aggregate-write-listing-2
-slice-aggregate-write-listing-2 c = search needs
+slice-aggregate-put-listing-2 : tie.Need-slice-aggregate-put-listing-2
+slice-aggregate-put-listing-2 c = search needs
 
-write-listing-requires : tie.Need-write-listing-requires
-write-listing-requires c κs = search needs
+put-listing-requires : tie.Need-put-listing-requires
+put-listing-requires c κs = search needs
 
 array-share-prefix-text : tie.Need-array-share-prefix-text
-array-share-prefix-text c = search needs
+array-share-prefix-text c = listing-ends _ _ (c .before .put-listing .ensures) (omega arith)
 
 slice-aggregate-write-whole : tie.Need-slice-aggregate-write-whole
-slice-aggregate-write-whole c = search needs
+slice-aggregate-write-whole c = sym (length-take-le _ _ (listing-ends _ _ (c .before .before .put-listing .ensures) (omega arith)))
 
 write-whole-requires : tie.Need-write-whole-requires
 write-whole-requires c κs = search needs
@@ -88,9 +92,9 @@ list-input-spec =
     same-length
     returns
     array-share-prefix-buffer
-    slice-aggregate-write-listing
-    slice-aggregate-write-listing-2
-    write-listing-requires
+    slice-aggregate-put-listing
+    slice-aggregate-put-listing-2
+    put-listing-requires
     array-share-prefix-text
     slice-aggregate-write-whole
     write-whole-requires
