@@ -1,4 +1,5 @@
-/* Loaded before the C library (LD_PRELOAD): read from descriptor 0 and write answer as the variables READ and WRITE say, one word for a call.
+/* Loaded before the C library (LD_PRELOAD): read from descriptor 0 and write answer as READ and WRITE of the environment say,
+ * one word for a call.
  * A word is `pass`, `intr` (interrupted by a signal), `io` (input/output error) or a number (at most so many bytes), with `*N` for N calls.
  * Calls behind the last word pass. */
 #define _GNU_SOURCE

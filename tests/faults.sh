@@ -1,5 +1,5 @@
 #!/usr/bin/env bash
-# The listing programs where the system interrupts, cuts short or refuses a read or a write: standard output and standard error, byte for byte.
+# The listing programs where a read or a write is interrupted, cut short or fails: standard output and standard error, byte for byte.
 set -eu
 cd "$(dirname "$0")/.."
 for program in radarlist packetlist; do

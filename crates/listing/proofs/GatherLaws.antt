@@ -1,7 +1,7 @@
 -- Input gathered block by block: each block lies behind what was gathered before.
 use mathlib.Core.Bool.{Bool, true, false}
 use mathlib.Core.Path.{_≡_, refl, sym, ap, _∙_}
-use mathlib.Core.List.{List, [], _∷_, _++_}
+use mathlib.Core.List.{List, [], _++_}
 use Prim.Native.Nat.{ℕ, _+_, _-_, _<_, _≤_}
 use native.Mathlib.Nat.{zero-add}
 use native.Mathlib.Omega.{arith}
@@ -14,7 +14,6 @@ use Rattle.listing.specs.Gather.{Gathers, Lent, inputAnswer}
 use Rattle.listing.specs.Internal.{Puts, Appends, Within}
 use Rattle.listing.specs.declared.Input.{Input}
 use Rattle.listing.specs.declared.Input.the-variants.{Read, Failed}
-use Rattle.listing.proofs.PutLaws.{puts-length}
 
 -- a block that keeps its length
 pub lent : {block after : List ℕ} → length after ≡ length block → Lent block after
@@ -38,8 +37,8 @@ pub gathered-none : (buffer : List ℕ) → Gathered buffer 0 buffer
 gathered-none buffer = record { input = []; counted = refl; fits = omega arith; leaves = sym (stored-nil buffer 0) }
 
 -- one more block
-pub gathered-more : {buffer l l′ block : List ℕ} {size size′ : ℕ} → Gathered buffer size l → Puts block l size size′ l′ → size′ ≤ length buffer
-    → Gathered buffer size′ l′
+pub gathered-more : {buffer l l′ block : List ℕ} {size size′ : ℕ} → Gathered buffer size l → Puts block l size size′ l′
+    → size′ ≤ length buffer → Gathered buffer size′ l′
 gathered-more {buffer} {l} {l′} {block} {size} {size′} g p h = record {
   input = g .input ++ block;
   counted = omega (arith, length-append (g .input) block, g .counted, p .ends);
@@ -51,7 +50,8 @@ gathered-more {buffer} {l} {l′} {block} {size} {size′} g p h = record {
 
 -- as many bytes as there is room for go behind those gathered
 pub appends : {buffer block after : List ℕ} {size got n end : ℕ} → Puts (take n block) buffer size end after → n ≤ length block → n ≤ got
-    → n ≤ length buffer - size → size ≤ length buffer → (0 < got → 0 < length buffer - size → 0 < n) → Appends buffer size block got end after
+    → n ≤ length buffer - size → size ≤ length buffer → (0 < got → 0 < length buffer - size → 0 < n)
+    → Appends buffer size block got end after
 appends {buffer} {block} {after} {size} {got} {n} {end} p l g r s f =
     let e : end ≡ size + n = p .ends ∙ ap (λ (k : ℕ). size + k) (length-take-le n block l) in
     let m : n ≡ end - size = omega arith in
@@ -88,7 +88,8 @@ module _ {block block′ buffer after : List ℕ} {size : ℕ} (g : Gathered buf
       distinct x = let z : _≡_ {A = ℕ} 0 1 = cc in omega arith
 
 -- the bytes read are bytes of the buffer
-pub read-counts : {block block′ buffer after : List ℕ} {r : Input} {size : ℕ} → Gathers block buffer r block′ after → r ≡ Read size → Counts size after
+pub read-counts : {block block′ buffer after : List ℕ} {r : Input} {size : ℕ} → Gathers block buffer r block′ after
+    → r ≡ Read size → Counts size after
 read-counts {block} {block′} {buffer} {after} {r} {size} g h =
     let n : length after ≡ length buffer = ap length (g .leaves) ∙ length-stored buffer 0 (g .input) in
     let m : size ≡ length (g .input) = counted (g .readable) (sym h ∙ g .answers) in

@@ -75,10 +75,13 @@ length-table-text n table size skipped =
 -- -- A row
 
 -- a letter and two numbers of the table are the line of the row there
-pub puts-row : (table : List ℕ) (index k : ℕ) {out out′ out″ : List ℕ} {at m end : ℕ} → k ≡ letter (getD table (index + 2) 0) → Puts (k ∷ []) out at m out′
-    → Puts (fields (getD table index 0) (getD table (index + 1) 0)) out′ m end out″ → Puts (rowLine (firstOf (drop index table))) out at end out″
+pub puts-row : (table : List ℕ) (index k : ℕ) {out out′ out″ : List ℕ} {at m end : ℕ}
+    → k ≡ letter (getD table (index + 2) 0) → Puts (k ∷ []) out at m out′
+    → Puts (fields (getD table index 0) (getD table (index + 1) 0)) out′ m end out″
+    → Puts (rowLine (firstOf (drop index table))) out at end out″
 unfolding rowLine
-puts-row table index k e p q = rw (getD-drop index table 0 0, getD-drop index table 1 0, getD-drop index table 2 0, add-zero index, ← e) (puts-then p q)
+puts-row table index k e p q =
+    rw (getD-drop index table 0 0, getD-drop index table 1 0, getD-drop index table 2 0, add-zero index, ← e) (puts-then p q)
 
 -- its length
 pub length-row-at : (table : List ℕ) (index : ℕ)
@@ -156,7 +159,8 @@ module _ (table out₀ : List ℕ) (from rows : ℕ) where
             (sym (stored-append out at line rest) ∙ sym (ap (stored out at) (next-line table from rows i l)) ∙ g .written);
       }
 
-  pub listing-over : (out : List ℕ) (i at : ℕ) → Listing table out₀ out from rows i at → rows ≤ i → Puts (tableLines rows table) out₀ from at out
+  pub listing-over : (out : List ℕ) (i at : ℕ) → Listing table out₀ out from rows i at → rows ≤ i
+      → Puts (tableLines rows table) out₀ from at out
   unfolding tableLines
   listing-over out i at g h =
       let z : rows - i ≡ 0 = omega arith in

@@ -1,15 +1,14 @@
 -- What is put for a table that the closed reading filled is the listing, and it fits.
-use mathlib.Core.Bool.{true, false, cond}
+use mathlib.Core.Bool.{true, cond}
 use mathlib.Core.Path.{_≡_, refl, sym, ap, _∙_}
 use mathlib.Core.List.{List, [], _∷_, _++_}
-use Prim.Native.Nat.{ℕ, _+_, _*_, _/_, _≤_, _<_}
+use Prim.Native.Nat.{ℕ, _+_, _*_, _≤_, _<_}
 use native.Mathlib.Omega.{arith}
 use native.Mathlib.Nat.{zero-add}
 use native.Mathlib.Decide.{decLt}
 use borrow.Author.Tests.{lt-ltb, le-ltb, le-leb}
 use lib.Dec.{ltb}
 use lib.ListN.{length, drop, length-append}
-use lib.Seq.{length-take-le}
 use Rattle.digits.specs.Stores.{stored, Writes}
 use Rattle.digits.specs.declared.Written.{Written}
 use Rattle.digits.proofs.StoreLaws.{length-stored, short, done}
@@ -46,14 +45,16 @@ pub record Closed (d : Dialect) (bs : List ℕ) (a : Answer) (table : List ℕ) 
 
 module _ (d : Dialect) (bs : List ℕ) (short : length bs ≤ maxInput) where
   -- with a table of 8,192 rows the reading is whole
-  pub closed-whole : (number : ℕ) (table after : List ℕ) (a : Answer) → number ≡ dialectNumber d → 24576 ≡ length table → Reads number true bs table a after → Closed d bs a after
+  pub closed-whole : (number : ℕ) (table after : List ℕ) (a : Answer) → number ≡ dialectNumber d → 24576 ≡ length table
+      → Reads number true bs table a after → Closed d bs a after
   unfolding readAnswer readLeaves
   closed-whole number table after a n e r =
       let k : dialectOf number ≡ Known d = ap dialectOf n ∙ number-names d in
       let w : reading (judgeOf d) true 8192 bs ≡ closedReading d bs = room-enough d bs 8192 (omega arith) in
       let m : roomIn table ≡ 8192 = rw (← e) in
       let x : a ≡ answered (reading (judgeOf d) true 8192 bs) = rw (k, le-ltb maxBytes (length bs) (omega arith), m) at (r .answers) in
-      let y : after ≡ stored table 0 (flat (reading (judgeOf d) true 8192 bs .rows)) = rw (k, le-ltb maxBytes (length bs) (omega arith), m) at (r .leaves) in
+      let y : after ≡ stored table 0 (flat (reading (judgeOf d) true 8192 bs .rows)) =
+      rw (k, le-ltb maxBytes (length bs) (omega arith), m) at (r .leaves) in
       let z = numbers-behind-stay (judgeOf d) (lawful-of d) true bs table 8192 (omega arith) in
       record {
         answers = x ∙ ap answered w;
@@ -133,7 +134,8 @@ module _ (d : Dialect) (bs out : List ℕ) (r : Written) (after : List ℕ) wher
   listing-whole h w = rw (le-ltb maxInput (length bs) h) w
 
 -- a buffer that holds the text is written
-pub writes-puts : {text out after : List ℕ} {r : Written} → Writes 0 text out r after → length text ≤ length out → Puts text out 0 (r .size) after
+pub writes-puts : {text out after : List ℕ} {r : Written} → Writes 0 text out r after → length text ≤ length out
+    → Puts text out 0 (r .size) after
 writes-puts {text} {out} {after} {r} w h = record {
   leaves = w .leaves ∙ rw (le-leb (length text) (length out) h);
   ends = ap (λ (a : Written). a .size) (w .answers) ∙ rw (le-leb (length text) (length out) h, zero-add);

@@ -19,8 +19,8 @@ abbrev pub inputAnswer : Bool → List ℕ → Input
 inputAnswer true input = Read (length input)
 inputAnswer false input = Failed
 
--- some input, and whether it could be read, are the system's to choose; it fits, lies in the buffer from its start on, and all bytes behind it stay;
--- where a read failed, it is what came before; with an empty block none succeeds
+-- some input, and whether it could be read to its end, are the system's to choose; the input fits, lies in the buffer from its
+-- start on, and all bytes behind it stay; where a read failed, it is what came before; with an empty block no read succeeds
 pub record Gathers (block buffer : List ℕ) (r : Input) (block′ after : List ℕ) : Type 0 where
   pub input : List ℕ
   pub readable : Bool

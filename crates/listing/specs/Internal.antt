@@ -2,7 +2,7 @@
 use mathlib.Core.Path.{_≡_}
 use mathlib.Core.List.{List, [], _++_}
 use Prim.Native.Nat.{ℕ, zero, suc, _+_, _-_, _<_, _≤_}
-use lib.ListN.{length, take, drop, getD, replicate}
+use lib.ListN.{length, take, drop, getD}
 use Rattle.digits.specs.Stores.{stored}
 use Rattle.reading.specs.declared.Row.{Row}
 use Rattle.listing.specs.Lines.{headerLine, rowLine, endLine}
@@ -10,11 +10,6 @@ use Rattle.listing.specs.declared.Input.{Input}
 use Rattle.listing.specs.declared.Input.the-variants.{Read, Failed}
 
 -- -- Buffers
-
--- n zeros; that they are n is said apart, so that a caller need not count them
-pub record Zeros (n : ℕ) (buffer : List ℕ) : Type 0 where
-  pub filled : buffer ≡ replicate n 0
-  pub sized : n ≡ length buffer
 
 -- a buffer of so many bytes holds every listing: 8,192 lines of at most 24 bytes, the first line of 18 and the last one of at most 26
 abbrev pub textRoom : ℕ

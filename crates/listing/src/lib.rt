@@ -11,7 +11,7 @@ ghost use Rattle.listing.specs.Decimal.{decimal, width};
 ghost use Rattle.listing.specs.Lines.{letter, field, fields, rowLine, endLine};
 ghost use Rattle.listing.specs.Gather.{Gathers, Lent};
 ghost use Rattle.listing.specs.Listing.{listed, listing, dialectNumber};
-ghost use Rattle.listing.specs.Internal.{Puts, Zeros, Appends, Within, tableLines, tableText, firstOf, textRoom};
+ghost use Rattle.listing.specs.Internal.{Puts, Appends, Within, tableLines, tableText, firstOf, textRoom};
 
 // The most bytes of input that are listed.
 pub const MAX_INPUT: usize = 65536;
@@ -22,7 +22,8 @@ pub const OUTPUT_TOO_SHORT: u32 = 51;
 // One byte more than is listed: it is reached by an input that is too long.
 pub const INPUT_ROOM: usize = 65537;
 
-// Room for 8,192 lines of at most 24 bytes (a letter, two tabs, two numbers of at most 10 digits, a line feed), the first line with 18 and the last one with at most 26.
+// Room for 8,192 lines of at most 24 bytes (a letter, two tabs, two numbers of at most 10 digits, a line feed),
+// the first line with 18 and the last one with at most 26.
 pub const TEXT_ROOM: usize = 196652;
 
 // Three numbers for each of 8,192 rows: the shortest frame has 8 bytes, so an input within the limit has no more (`rows-in-bytes`).
@@ -47,25 +48,25 @@ pub enum Input {
     Failed,
 }
 
-// -- Buffers
+// -- Buffers: what they hold before they are written is nobody's concern, so their promises give the length alone.
 
 // Zeros for the input.
 fn input_buffer() -> [u8; INPUT_ROOM]
-    ensures { λ r. ⌜ Zeros 65537 r ⌝ }
+    ensures { λ r. ⌜ 65537 ≡ length r ⌝ }
 {
     [0; INPUT_ROOM]
 }
 
 // Zeros for the text of any listing.
 fn text_buffer() -> [u8; TEXT_ROOM]
-    ensures { λ r. ⌜ Zeros 196652 r ⌝ }
+    ensures { λ r. ⌜ textRoom ≡ length r ⌝ }
 {
     [0; TEXT_ROOM]
 }
 
 // Zeros for the rows.
 fn row_table() -> [u32; TABLE_ROOM]
-    ensures { λ r. ⌜ Zeros 24576 r ⌝ }
+    ensures { λ r. ⌜ 24576 ≡ length r ⌝ }
 {
     [0; TABLE_ROOM]
 }
@@ -336,7 +337,8 @@ fn write_listed(bytes: &[u8], out: &mut [u8], d: Dialect) -> Written
     write_table(out, &table, a.rows, size, skipped)
 }
 
-// Writes what a listing program prints for these bytes: the closed reading, one line for each frame, or `refused`, tab, `4` for over 65,536 bytes.
+// Writes what a listing program prints for these bytes: the closed reading, one line for each frame,
+// or `refused`, tab, `4` for over 65,536 bytes.
 // For the 9 bytes `!E0000`, CR, LF, space it is `kind`, tab, `place`, tab, `length`; `E`, tab, `0`, tab, `8`; `end`, tab, `9`, tab, `1`.
 pub fn write_listing(bytes: &[u8], out: &mut [u8], d: Dialect) -> Written
     ensures { λ r. ⌜ Writes 0 (listing d (now (bytes .entry))) (now (out .entry)) r (now (out .exit)) ⌝ }
@@ -450,8 +452,8 @@ fn complain(program: &[u8], what: &[u8]) {
 
 // -- The programs
 
-// Lists standard input on standard output, reading it by the block.
-// Where a read fails nothing is listed, so that no part of a capture is taken for the whole; a line on standard error says so, and also where a write fails.
+// Lists standard input, read by the block, on standard output. Where a read fails nothing is listed, so that no part of a
+// capture is taken for the whole, and a line on standard error says so; another one says that a write failed.
 pub fn list_input(program: &[u8], block: &mut [u8], d: Dialect)
     ensures { λ _. ⌜ Lent (now (block .entry)) (now (block .exit)) ⌝ }
 {

@@ -16,10 +16,14 @@ width-of-requires-2 : tie.Need-width-of-requires-2
 width-of-requires-2 c κs = search needs
 
 add-result-2 : tie.Need-add-result-2
-add-result-2 c = omega (arith, c .before .width-of .ensures, c .width-of2 .ensures, width-most (c .before .before .args .a), width-most (c .before .before .args .b))
+add-result-2 c =
+    let a = c .before .before .args in
+    omega (arith, c .before .width-of .ensures, c .width-of2 .ensures, width-most (a .a), width-most (a .b))
 
 returns : tie.Need-returns
-returns c = omega (arith, c .before .width-of .ensures, c .width-of2 .ensures, length-fields (c .before .before .args .a) (c .before .before .args .b))
+returns c =
+    let a = c .before .before .args in
+    omega (arith, c .before .width-of .ensures, c .width-of2 .ensures, length-fields (a .a) (a .b))
 
 pub fields-size-spec : {M : Type 1} → statement M
 fields-size-spec =

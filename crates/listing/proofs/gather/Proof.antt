@@ -1,5 +1,5 @@
 -- `listing::gather` meets its contract. The loop keeps that what was gathered so far is some input; each turn gathers a byte at least.
-use mathlib.Core.Path.{_≡_, refl, sym, ap, _∙_}
+use mathlib.Core.Path.{_≡_, refl, ap, _∙_}
 use Prim.Native.Nat.{_≤_, _-_}
 use native.Mathlib.Omega.{arith}
 use lib.ListN.{length}
@@ -10,7 +10,8 @@ use Rattle.listing.proofs.gather.Statement.{statement}
 use Rattle.listing.proofs.gather.Tie as tie
 
 abbrev Inv-loop : tie.InvT-loop
-Inv-loop block₀ buffer₀ size₀ block buffer size = (size ≤ length buffer₀) × (length buffer ≡ length buffer₀) × (length block ≡ length block₀) × Gathered buffer₀ size buffer
+Inv-loop block₀ buffer₀ size₀ block buffer size =
+    (size ≤ length buffer₀) × (length buffer ≡ length buffer₀) × (length block ≡ length block₀) × Gathered buffer₀ size buffer
 
 abbrev μ-loop : tie.MeasureT-loop
 μ-loop block₀ buffer₀ size₀ block buffer size = length buffer₀ - size
@@ -71,7 +72,8 @@ loop-again c =
     let l = c .before .before .before .before .before .before .before .before .before .before .before .before .before .before .loop in
     let r = c .before .before .before .before .before .before .before .before .before .before .before .read-block in
     let e = c .before .before .append .ensures in
-    (omega (arith, e .within), puts-length (e .puts) ∙ l .inv .1, r .ensures .1 ∙ l .inv .2, gathered-more (l .inv .3) (e .puts) (omega (arith, e .within)))
+    let g = gathered-more (l .inv .3) (e .puts) (omega (arith, e .within)) in
+    (omega (arith, e .within), puts-length (e .puts) ∙ l .inv .1, r .ensures .1 ∙ l .inv .2, g)
 
 same-length-5 : tie.Need-same-length-5 Inv-loop μ-loop
 same-length-5 c = search needs

@@ -39,10 +39,14 @@ returns : tie.Need-returns
 returns c = search needs
 
 array-share-prefix-buffer : tie.Need-array-share-prefix-buffer
-array-share-prefix-buffer c = read-counts (c .before .before .before .before .before .before .gather .ensures) (c .before .input .given .1) .0
+array-share-prefix-buffer c =
+    let g = c .before .before .before .before .before .before .gather .ensures in
+    read-counts g (c .before .input .given .1) .0
 
 slice-aggregate-put-listing : tie.Need-slice-aggregate-put-listing
-slice-aggregate-put-listing c = read-counts (c .before .before .before .before .before .before .before .gather .ensures) (c .before .before .input .given .1) .1
+slice-aggregate-put-listing c =
+    let g = c .before .before .before .before .before .before .before .gather .ensures in
+    read-counts g (c .before .before .input .given .1) .1
 
 slice-aggregate-put-listing-2 : tie.Need-slice-aggregate-put-listing-2
 slice-aggregate-put-listing-2 c = search needs

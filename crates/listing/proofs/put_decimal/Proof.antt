@@ -1,6 +1,6 @@
 -- `listing::put_decimal` meets its contract. The loop keeps that storing the digits that are left completes the number.
 use mathlib.Core.Path.{refl, ap, sym, _≡_, _∙_}
-use Prim.Native.Nat.{ℕ, _≤_, _-_, _+_}
+use Prim.Native.Nat.{ℕ, _≤_, _-_}
 use lib.ListN.{length-set, length}
 use Rattle.listing.specs.Decimal.{width, decimals, decimal}
 use native.Mathlib.Omega.{arith}
@@ -22,8 +22,12 @@ width-of-requires c κs = search needs
 
 loop-holds : tie.Need-loop-holds Inv-loop μ-loop
 unfolding decimal
-loop-holds c = let a = c .before .before .args in
-    (omega arith, c .width-of .ensures ∙ sym (length-decimal (a .v)), refl, ap (λ (n : ℕ). stored (a .out .now) (a .at) (decimals n (a .v))) (c .width-of .ensures))
+loop-holds c = let a = c .before .before .args in (
+  omega arith,
+  c .width-of .ensures ∙ sym (length-decimal (a .v)),
+  refl,
+  ap (λ (n : ℕ). stored (a .out .now) (a .at) (decimals n (a .v))) (c .width-of .ensures),
+)
 
 sub-left : tie.Need-sub-left Inv-loop μ-loop
 sub-left c = search needs

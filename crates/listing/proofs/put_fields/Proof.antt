@@ -30,7 +30,10 @@ same-length c = search needs
 
 returns : tie.Need-returns
 unfolding fields
-returns c = puts-then (c .before .before .before .before .before .before .before .before .before .before .put-field .ensures) (puts-then (c .before .before .before .before .before .before .put-field2 .ensures) (c .before .before .put-byte .ensures))
+returns c =
+    let e = c .before .before .before .before .before .before .before .before .before .before .put-field .ensures in
+    let f = c .before .before .before .before .before .before .put-field2 .ensures in
+    puts-then e (puts-then f (c .before .before .put-byte .ensures))
 
 pub put-fields-spec : {M : Type 1} → statement M
 put-fields-spec =

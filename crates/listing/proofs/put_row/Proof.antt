@@ -48,7 +48,11 @@ same-length : tie.Need-same-length
 same-length c = search needs
 
 returns : tie.Need-returns
-returns c = let a = c .before .before .before .before .before .before .before .before .before .before .before .before .before .before .args in puts-row (a .table .now) (a .index) _ (c .before .before .before .before .before .before .before .before .before .before .letter-of .ensures) (c .before .before .before .before .before .before .before .before .put-byte .ensures) (c .before .before .put-fields .ensures)
+returns c =
+    let a = c .before .before .before .before .before .before .before .before .before .before .before .before .before .before .args in
+    let k = c .before .before .before .before .before .before .before .before .before .before .letter-of .ensures in
+    let e = c .before .before .before .before .before .before .before .before .put-byte .ensures in
+    puts-row (a .table .now) (a .index) _ k e (c .before .before .put-fields .ensures)
 
 pub put-row-spec : {M : Type 1} → statement M
 put-row-spec =

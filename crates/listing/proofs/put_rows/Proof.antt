@@ -1,6 +1,5 @@
 -- `listing::put_rows` meets its contract. The loop keeps that storing the lines of the rows that are left completes the text.
-use mathlib.Core.Path.{_≡_, refl, sym, ap, _∙_}
-use Prim.Native.Nat.{_≤_, _-_}
+use Prim.Native.Nat.{_-_}
 use native.Mathlib.Omega.{arith}
 use Rattle.listing.proofs.LineLaws.{Listing, reached-fits, listing-start, listing-next, listing-over}
 use Rattle.listing.proofs.PutLaws.{puts-length}

@@ -1,8 +1,7 @@
 -- `listing::read_block` meets its contract: each turn takes one of the tries.
-use mathlib.Core.Path.{_≡_, refl}
+use mathlib.Core.Path.{_≡_}
 use lib.ListN.{length}
 use Prim.Native.Nat.{_≤_, _-_}
-use native.Mathlib.Omega.{arith}
 use borrow.Author.Needs.{needs}
 use Rattle.listing.proofs.read_block.Statement.{statement}
 use Rattle.listing.proofs.read_block.Tie as tie

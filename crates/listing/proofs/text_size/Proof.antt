@@ -12,7 +12,9 @@ fields-size-requires : tie.Need-fields-size-requires
 fields-size-requires c κs = search needs
 
 add-result : tie.Need-add-result
-add-result c = omega (arith, c .before .rows-size .ensures, table-most (c .before .before .before .args .rows) (c .before .before .before .args .table .now))
+add-result c =
+    let a = c .before .before .before .args in
+    omega (arith, c .before .rows-size .ensures, table-most (a .rows) (a .table .now))
 
 add-result-2 : tie.Need-add-result-2
 add-result-2 c =
@@ -23,7 +25,8 @@ add-result-2 c =
 returns : tie.Need-returns
 returns c =
     let a = c .before .before .before .args in
-    omega (arith, c .before .rows-size .ensures, c .fields-size .ensures, length-table-text (a .rows) (a .table .now) (a .size) (a .skipped))
+    let n = length-table-text (a .rows) (a .table .now) (a .size) (a .skipped) in
+    omega (arith, c .before .rows-size .ensures, c .fields-size .ensures, n)
 
 pub text-size-spec : {M : Type 1} → statement M
 text-size-spec =

@@ -27,7 +27,7 @@ cast-skipped c =
     let a = c .before .before .before .before .before .before .before .before .args in
     let h : length (a .bytes .now) ≤ 65536 = omega arith in
     let n = c .before .before .before .before .number-of .ensures in
-    let t = c .before .before .before .before .before .row-table .ensures .sized in
+    let t = c .before .before .before .before .before .row-table .ensures in
     let r = c .before .before .closed-reading in
     let w = closed-whole (a .d) (a .bytes .now) h _ _ _ _ n t (r .ensures) in
     omega (arith, closed-few (a .d) (a .bytes .now) h (r .result) _ w .1)
@@ -40,7 +40,7 @@ write-table-requires c κs =
     let a = c .before .before .before .before .before .before .before .before .before .before .args in
     let h : length (a .bytes .now) ≤ 65536 = omega arith in
     let n = c .before .before .before .before .before .before .number-of .ensures in
-    let t = c .before .before .before .before .before .before .before .row-table .ensures .sized in
+    let t = c .before .before .before .before .before .before .before .row-table .ensures in
     let r = c .before .before .before .before .closed-reading in
     let w = closed-whole (a .d) (a .bytes .now) h _ _ _ _ n t (r .ensures) in
     let f = closed-few (a .d) (a .bytes .now) h (r .result) _ w in
@@ -54,7 +54,7 @@ returns c =
     let a = c .before .before .before .before .before .before .before .before .before .before .before .before .before .args in
     let h : length (a .bytes .now) ≤ 65536 = omega arith in
     let n = c .before .before .before .before .before .before .before .before .before .number-of .ensures in
-    let t = c .before .before .before .before .before .before .before .before .before .before .row-table .ensures .sized in
+    let t = c .before .before .before .before .before .before .before .before .before .before .row-table .ensures in
     let r = c .before .before .before .before .before .before .before .closed-reading in
     let w = closed-whole (a .d) (a .bytes .now) h _ _ _ _ n t (r .ensures) in
     writes-listed (a .d) (a .bytes .now) h _ _ _ _ _ w (c .before .before .write-table .ensures)

@@ -1,6 +1,5 @@
 -- `listing::write_part` meets its contract: each turn takes one of the tries.
 use Prim.Native.Nat.{_≤_, _-_}
-use native.Mathlib.Omega.{arith}
 use borrow.Author.Needs.{needs}
 use Rattle.listing.proofs.write_part.Statement.{statement}
 use Rattle.listing.proofs.write_part.Tie as tie

@@ -1,7 +1,6 @@
 -- `listing::write_whole` ends: each turn writes a byte at least.
 use lib.ListN.{length}
 use Prim.Native.Nat.{_≤_, _-_}
-use native.Mathlib.Omega.{arith}
 use borrow.Author.Needs.{needs}
 use Rattle.listing.proofs.write_whole.Statement.{statement}
 use Rattle.listing.proofs.write_whole.Tie as tie
