@@ -11,9 +11,9 @@ use lib.Dec.{ltb}
 use lib.ListN.{length, set, length-append}
 use lib.Pow.{pow-add}
 use Rattle.digits.specs.Stores.{stored}
-use Rattle.digits.proofs.StoreLaws.{stored-append, stored-one, set-behind}
+use Rattle.digits.proofs.StoreLaws.{stored-append, set-behind}
 use Rattle.listing.specs.Decimal.{decimals, width, decimal, figure, tensFrom, Fewest}
-use Rattle.listing.specs.Puts.{Puts}
+use Rattle.listing.specs.Internal.{Puts}
 
 -- -- Lengths
 
@@ -45,7 +45,8 @@ length-decimal v = length-decimals (width v) v
 
 -- -- The last digit first
 
-last-first : (l : List ℕ) (at m v : ℕ) → stored (set l (at + m) (figure (v % 10))) at (decimals m (v / 10)) ≡ stored l at (decimals (suc m) v)
+last-first : (l : List ℕ) (at m v : ℕ)
+    → stored (set l (at + m) (figure (v % 10))) at (decimals m (v / 10)) ≡ stored l at (decimals (suc m) v)
 unfolding decimals stored
 last-first l at m v =
     sym (rw (length-decimals m (v / 10)) at
@@ -53,13 +54,15 @@ last-first l at m v =
     ∙ set-behind l at (decimals m (v / 10)) (at + m) (figure (v % 10)) (omega (arith, length-decimals m (v / 10))))
 
 -- the digit before those already stored
-pub digit-step : (l : List ℕ) (at left v : ℕ) → 0 < left → stored (set l (at + (left - 1)) (figure (v % 10))) at (decimals (left - 1) (v / 10)) ≡ stored l at (decimals left v)
+pub digit-step : (l : List ℕ) (at left v : ℕ) → 0 < left
+    → stored (set l (at + (left - 1)) (figure (v % 10))) at (decimals (left - 1) (v / 10)) ≡ stored l at (decimals left v)
 digit-step l at left v h =
     let e : left ≡ suc (left - 1) = omega arith in
     last-first l at (left - 1) v ∙ ap (λ (n : ℕ). stored l at (decimals n v)) (sym e)
 
 -- every digit is stored
-pub digits-over : (l l₀ : List ℕ) (at n left rest v : ℕ) → left ≡ 0 → n ≡ width v → stored l at (decimals left rest) ≡ stored l₀ at (decimal v) → Puts (decimal v) l₀ at (at + n) l
+pub digits-over : (l l₀ : List ℕ) (at n left rest v : ℕ) → left ≡ 0 → n ≡ width v
+    → stored l at (decimals left rest) ≡ stored l₀ at (decimal v) → Puts (decimal v) l₀ at (at + n) l
 unfolding decimals stored
 digits-over l l₀ at n left rest v z w e = record { leaves = rw z at e; ends = rw (length-decimal v) (ap (λ (m : ℕ). at + m) w) }
 
@@ -97,7 +100,9 @@ width-fewest v h =
     (λ b. by-width v 3 _ (λ l. b)
     (λ c. by-width v 4 _ (λ l. c)
     (λ d. by-width v 5 _ (λ l. d)
-    (λ e. by-width v 6 _ (λ l. e) (λ f. by-width v 7 _ (λ l. f) (λ g. by-width v 8 _ (λ l. g) (λ i. by-width v 9 _ (λ l. i) (λ j. (omega arith, λ l. j))))))))))
+    (λ e. by-width v 6 _ (λ l. e)
+    (λ f. by-width v 7 _ (λ l. f)
+    (λ g. by-width v 8 _ (λ l. g) (λ i. by-width v 9 _ (λ l. i) (λ j. (omega arith, λ l. j))))))))))
 
 -- the digits read back as the number
 pub decimal-reads-back : (v : ℕ) → v < 2 ^ 32 → tensFrom 0 (decimal v) ≡ v

@@ -10,32 +10,39 @@ use Rattle.digits.specs.Stores.{stored}
 use Rattle.digits.proofs.StoreLaws.{stored-nil, stored-append}
 use Rattle.reading.specs.Reading.{flat}
 use Rattle.reading.specs.declared.Row.{Row}
-use Rattle.listing.specs.Decimal.{decimal}
-use Rattle.listing.specs.Lines.{letter, field, fields, rowLine, rowLines, tableLines, endLine, firstOf, lineFeed}
-use Rattle.listing.specs.Puts.{Puts}
+use Rattle.listing.specs.Decimal.{decimal, width}
+use Rattle.listing.specs.Lines.{letter, field, fields, rowLine, rowLines, headerLine, endLine, lineFeed}
+use Rattle.listing.specs.Internal.{Puts, tableLines, tableText, firstOf}
 use Rattle.listing.proofs.PutLaws.{puts-then}
 use Rattle.listing.proofs.DecimalLaws.{width-most, length-decimal}
 
 -- -- Lengths
 
--- a field has at most 11 bytes
-pub field-most : (v : ℕ) → length (field v) ≤ 11
+-- a field has a tab and the number's digits
+pub length-field : (v : ℕ) → length (field v) ≡ 1 + width v
 unfolding field
-field-most v = omega (arith, width-most v, length-decimal v)
+length-field v = omega (arith, length-decimal v)
 
-fields-most : (a b : ℕ) → length (fields a b) ≤ 23
+-- two numbers to the end of the line
+pub length-fields : (a b : ℕ) → length (fields a b) ≡ 3 + width a + width b
 unfolding fields
-fields-most a b =
+length-fields a b =
     let e = length-append (field a) (field b ++ (lineFeed ∷ [])) in
     let f = length-append (field b) (lineFeed ∷ []) in
-    let x = field-most a in
-    let y = field-most b in
-    omega arith
+    omega (arith, length-field a, length-field b)
+
+-- they have at most 23 bytes
+pub fields-most : (a b : ℕ) → length (fields a b) ≤ 23
+fields-most a b = omega (arith, length-fields a b, width-most a, width-most b)
+
+-- the line of a row has a letter in front of the numbers
+pub length-row : (w : Row) → length (rowLine w) ≡ 1 + length (fields (w .offset) (w .size))
+unfolding rowLine
+length-row w = omega arith
 
 -- the line of a row has at most 24 bytes
 pub row-most : (w : Row) → length (rowLine w) ≤ 24
-unfolding rowLine
-row-most w = let h = fields-most (w .offset) (w .size) in omega arith
+row-most w = omega (arith, length-row w, fields-most (w .offset) (w .size))
 
 -- the lines of a table's rows
 pub table-most : (n : ℕ) (table : List ℕ) → length (tableLines n table) ≤ 24 * n
@@ -47,59 +54,119 @@ table-most (suc n) table =
     let b = table-most n (drop 3 table) in
     omega arith
 
+-- the last line has a word in front of the numbers
+pub length-end : (size skipped : ℕ) → length (endLine size skipped) ≡ 3 + length (fields size skipped)
+unfolding endLine
+length-end size skipped = omega (arith, length-append (101 ∷ 110 ∷ 100 ∷ []) (fields size skipped))
+
 -- the last line has at most 26 bytes
 pub end-most : (size skipped : ℕ) → length (endLine size skipped) ≤ 26
-unfolding endLine
-end-most size skipped = let h = fields-most size skipped in omega arith
+end-most size skipped = omega (arith, length-end size skipped, fields-most size skipped)
+
+-- the whole text
+pub length-table-text : (n : ℕ) (table : List ℕ) (size skipped : ℕ)
+    → length (tableText n table size skipped) ≡ 21 + length (tableLines n table) + length (fields size skipped)
+unfolding tableText headerLine
+length-table-text n table size skipped =
+    let e = length-append headerLine (tableLines n table ++ endLine size skipped) in
+    let f = length-append (tableLines n table) (endLine size skipped) in
+    omega (arith, length-end size skipped)
 
 -- -- A row
 
 -- a letter and two numbers of the table are the line of the row there
-pub puts-row : (table : List ℕ) (index k : ℕ) {out out′ out″ : List ℕ} {at m end : ℕ} → k ≡ letter (getD table (index + 2) 0) → Puts (k ∷ []) out at m out′
-    → Puts (fields (getD table index 0) (getD table (index + 1) 0)) out′ m end out″ → Puts (rowLine (firstOf (drop index table))) out at end out″
+pub puts-row : (table : List ℕ) (index k : ℕ) {out out′ out″ : List ℕ} {at m end : ℕ}
+    → k ≡ letter (getD table (index + 2) 0) → Puts (k ∷ []) out at m out′
+    → Puts (fields (getD table index 0) (getD table (index + 1) 0)) out′ m end out″
+    → Puts (rowLine (firstOf (drop index table))) out at end out″
 unfolding rowLine
-puts-row table index k e p q = rw (getD-drop index table 0 0, getD-drop index table 1 0, getD-drop index table 2 0, add-zero index, ← e) (puts-then p q)
+puts-row table index k e p q =
+    rw (getD-drop index table 0 0, getD-drop index table 1 0, getD-drop index table 2 0, add-zero index, ← e) (puts-then p q)
 
--- -- The loop over the rows
+-- its length
+pub length-row-at : (table : List ℕ) (index : ℕ)
+    → length (rowLine (firstOf (drop index table))) ≡ 1 + length (fields (getD table index 0) (getD table (index + 1) 0))
+length-row-at table index =
+    length-row (firstOf (drop index table)) ∙ rw (getD-drop index table 0 0, getD-drop index table 1 0, add-zero index)
 
--- i rows are put, up to offset at; the rest follows
-pub record Listing (table out₀ out : List ℕ) (from rows i at : ℕ) : Type 0 where
+-- -- The loops over the rows
+
+-- i rows are measured or put, up to offset at; the rest follows
+pub record Reached (table : List ℕ) (from rows i at : ℕ) : Type 0 where
   pub within : i ≤ rows
-  pub short : at ≤ from + 24 * i
+  pub ended : at + length (tableLines (rows - i) (drop (3 * i) table)) ≡ from + length (tableLines rows table)
+
+module _ (table : List ℕ) (from rows : ℕ) where
+  pub reached-start : Reached table from rows 0 from
+  reached-start =
+      let z : rows - 0 ≡ rows = omega arith in
+      record { within = omega arith; ended = rw z }
+
+  -- the lines that are left start with that of row i
+  next-line : (i : ℕ) → i < rows
+      → tableLines (rows - i) (drop (3 * i) table)
+      ≡ rowLine (firstOf (drop (3 * i) table)) ++ tableLines (rows - (i + 1)) (drop (3 * (i + 1)) table)
+  unfolding tableLines
+  next-line i l =
+      let n : rows - i ≡ suc (rows - (i + 1)) = omega arith in
+      let m : 3 * i + 3 ≡ 3 * (i + 1) = omega arith in
+      rw (n, ← m, ← drop-drop 3 (3 * i) table)
+
+  pub reached-next : (i at at′ : ℕ) → Reached table from rows i at → i < rows → at′ ≡ at + length (rowLine (firstOf (drop (3 * i) table)))
+      → Reached table from rows (i + 1) at′
+  reached-next i at at′ g l e =
+      let line = rowLine (firstOf (drop (3 * i) table)) in
+      let rest = tableLines (rows - (i + 1)) (drop (3 * (i + 1)) table) in
+      record { within = omega arith; ended = omega (arith, length-append line rest, ap length (next-line i l), e, g .ended) }
+
+  -- the next line ends before the text does
+  pub reached-fits : (i at : ℕ) → Reached table from rows i at → i < rows
+      → at + length (rowLine (firstOf (drop (3 * i) table))) ≤ from + length (tableLines rows table)
+  reached-fits i at g l =
+      let line = rowLine (firstOf (drop (3 * i) table)) in
+      let rest = tableLines (rows - (i + 1)) (drop (3 * (i + 1)) table) in
+      omega (arith, length-append line rest, ap length (next-line i l), g .ended)
+
+  pub reached-over : (i at : ℕ) → Reached table from rows i at → rows ≤ i → at ≡ from + length (tableLines rows table)
+  unfolding tableLines
+  reached-over i at g h =
+      let z : rows - i ≡ 0 = omega arith in
+      sym (add-zero at) ∙ rw z at (g .ended)
+
+-- as many rows are put
+pub record Listing (table out₀ out : List ℕ) (from rows i at : ℕ) : Type 0 where
+  pub reached : Reached table from rows i at
   pub same-length : length out ≡ length out₀
   pub written : stored out at (tableLines (rows - i) (drop (3 * i) table)) ≡ stored out₀ from (tableLines rows table)
-  pub ended : at + length (tableLines (rows - i) (drop (3 * i) table)) ≡ from + length (tableLines rows table)
 
 module _ (table out₀ : List ℕ) (from rows : ℕ) where
   pub listing-start : Listing table out₀ out₀ from rows 0 from
   listing-start =
       let z : rows - 0 ≡ rows = omega arith in
-      record { within = omega arith; short = omega arith; same-length = refl; written = rw z; ended = rw z }
+      record { reached = reached-start table from rows; same-length = refl; written = rw z }
 
-  pub listing-next : (out out′ : List ℕ) (i at at′ : ℕ) → Listing table out₀ out from rows i at → i < rows → Puts (rowLine (firstOf (drop (3 * i) table))) out at at′ out′ → length out′ ≡ length out → Listing table out₀ out′ from rows (i + 1) at′
-  unfolding tableLines
+  pub listing-next : (out out′ : List ℕ) (i at at′ : ℕ) → Listing table out₀ out from rows i at → i < rows
+      → Puts (rowLine (firstOf (drop (3 * i) table))) out at at′ out′ → length out′ ≡ length out
+      → Listing table out₀ out′ from rows (i + 1) at′
   listing-next out out′ i at at′ g l p e =
-      let n : rows - i ≡ suc (rows - (i + 1)) = omega arith in
-      let m : 3 * i + 3 ≡ 3 * (i + 1) = omega arith in
       let line = rowLine (firstOf (drop (3 * i) table)) in
       let rest = tableLines (rows - (i + 1)) (drop (3 * (i + 1)) table) in
-      let t : tableLines (rows - i) (drop (3 * i) table) ≡ line ++ rest = rw (n, ← m, ← drop-drop 3 (3 * i) table) in
       record {
-        within = omega arith;
-        short = omega (arith, row-most (firstOf (drop (3 * i) table)), p .ends, g .short);
+        reached = reached-next table from rows i at at′ (g .reached) l (p .ends);
         same-length = e ∙ g .same-length;
         written =
-            rw (p .leaves, p .ends) (sym (stored-append out at line rest) ∙ sym (ap (stored out at) t) ∙ g .written);
-        ended = omega (arith, length-append line rest, ap length t, p .ends, g .ended);
+            rw (p .leaves, p .ends)
+            (sym (stored-append out at line rest) ∙ sym (ap (stored out at) (next-line table from rows i l)) ∙ g .written);
       }
 
-  pub listing-over : (out : List ℕ) (i at : ℕ) → Listing table out₀ out from rows i at → rows ≤ i → Puts (tableLines rows table) out₀ from at out
+  pub listing-over : (out : List ℕ) (i at : ℕ) → Listing table out₀ out from rows i at → rows ≤ i
+      → Puts (tableLines rows table) out₀ from at out
   unfolding tableLines
   listing-over out i at g h =
       let z : rows - i ≡ 0 = omega arith in
       record {
         leaves = sym (stored-nil out at) ∙ rw z at (g .written);
-        ends = sym (add-zero at) ∙ rw z at (g .ended);
+        ends = reached-over table from rows i at (g .reached) h;
       }
 
 -- -- The rows in the table

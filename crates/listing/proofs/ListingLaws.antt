@@ -1,16 +1,17 @@
 -- What is put for a table that the closed reading filled is the listing, and it fits.
-use mathlib.Core.Bool.{true, false, cond}
+use mathlib.Core.Bool.{true, cond}
 use mathlib.Core.Path.{_≡_, refl, sym, ap, _∙_}
 use mathlib.Core.List.{List, [], _∷_, _++_}
-use Prim.Native.Nat.{ℕ, _+_, _*_, _/_, _≤_, _<_}
+use Prim.Native.Nat.{ℕ, _+_, _*_, _≤_, _<_}
 use native.Mathlib.Omega.{arith}
-use borrow.Author.Tests.{lt-ltb, le-ltb}
+use native.Mathlib.Nat.{zero-add}
+use native.Mathlib.Decide.{decLt}
+use borrow.Author.Tests.{lt-ltb, le-ltb, le-leb}
 use lib.Dec.{ltb}
 use lib.ListN.{length, drop, length-append}
-use lib.Seq.{length-take-le}
-use Rattle.digits.specs.Stores.{stored}
+use Rattle.digits.specs.Stores.{stored, Writes}
 use Rattle.digits.specs.declared.Written.{Written}
-use Rattle.digits.proofs.StoreLaws.{length-stored, unfit, done}
+use Rattle.digits.proofs.StoreLaws.{length-stored, short, done}
 use Rattle.reading.specs.Answers.{answered, roomIn}
 use Rattle.reading.specs.Reading.{Reading, reading, flat, rowWidth, lengths}
 use Rattle.reading.specs.declared.Answer.{Answer}
@@ -22,11 +23,11 @@ use Rattle.capture.specs.declared.Asked.the-variants.{Known}
 use Rattle.capture.specs.declared.Dialect.{Dialect}
 use Rattle.capture.specs.declared.Dialect.the-variants.{Sirad, Mmwave}
 use Rattle.capture.proofs.Wires.{lawful-of}
-use Rattle.listing.specs.Lines.{headerLine, rowLine, rowLines, tableLines, endLine, refusedLine}
-use Rattle.listing.specs.Listing.{closedReading, listed, listing, outputRefusal, dialectNumber, maxInput, textRoom, Lists}
-use Rattle.listing.specs.Puts.{Puts}
+use Rattle.listing.specs.Lines.{headerLine, rowLine, rowLines, endLine, refusedLine}
+use Rattle.listing.specs.Listing.{closedReading, listed, listing, dialectNumber, maxInput}
+use Rattle.listing.specs.Internal.{Puts, tableLines, tableText, textRoom}
 use Rattle.listing.proofs.PutLaws.{puts-length}
-use Rattle.listing.proofs.LineLaws.{lines-of-rows, row-most, end-most, table-most}
+use Rattle.listing.proofs.LineLaws.{lines-of-rows, row-most, end-most}
 use Rattle.listing.proofs.RoomLaws.{rows-in-bytes, room-enough}
 
 -- the number of a dialect names it
@@ -44,14 +45,16 @@ pub record Closed (d : Dialect) (bs : List ℕ) (a : Answer) (table : List ℕ) 
 
 module _ (d : Dialect) (bs : List ℕ) (short : length bs ≤ maxInput) where
   -- with a table of 8,192 rows the reading is whole
-  pub closed-whole : (number : ℕ) (table after : List ℕ) (a : Answer) → number ≡ dialectNumber d → 24576 ≡ length table → Reads number true bs table a after → Closed d bs a after
+  pub closed-whole : (number : ℕ) (table after : List ℕ) (a : Answer) → number ≡ dialectNumber d → 24576 ≡ length table
+      → Reads number true bs table a after → Closed d bs a after
   unfolding readAnswer readLeaves
   closed-whole number table after a n e r =
       let k : dialectOf number ≡ Known d = ap dialectOf n ∙ number-names d in
       let w : reading (judgeOf d) true 8192 bs ≡ closedReading d bs = room-enough d bs 8192 (omega arith) in
       let m : roomIn table ≡ 8192 = rw (← e) in
       let x : a ≡ answered (reading (judgeOf d) true 8192 bs) = rw (k, le-ltb maxBytes (length bs) (omega arith), m) at (r .answers) in
-      let y : after ≡ stored table 0 (flat (reading (judgeOf d) true 8192 bs .rows)) = rw (k, le-ltb maxBytes (length bs) (omega arith), m) at (r .leaves) in
+      let y : after ≡ stored table 0 (flat (reading (judgeOf d) true 8192 bs .rows)) =
+      rw (k, le-ltb maxBytes (length bs) (omega arith), m) at (r .leaves) in
       let z = numbers-behind-stay (judgeOf d) (lawful-of d) true bs table 8192 (omega arith) in
       record {
         answers = x ∙ ap answered w;
@@ -71,14 +74,20 @@ module _ (d : Dialect) (bs : List ℕ) (short : length bs ≤ maxInput) where
       let q : a .skipped ≡ reading (judgeOf d) true (length bs) bs .skipped = ap (λ (a : Answer). a .skipped) (c .answers) in
       (omega arith, omega arith)
 
-  -- the text by the table is the listing
-  pub puts-listed : (a : Answer) (table out after : List ℕ) (end : ℕ) → Closed d bs a table
-      → Puts (headerLine ++ (tableLines (a .rows) table ++ endLine (length bs) (a .skipped))) out 0 end after → Puts (listed d bs) out 0 end after
-  unfolding listed
-  puts-listed a table out after end c p =
-      let t : tableLines (a .rows) table ≡ rowLines (closedReading d bs .rows) = rw (c .lies, ap (λ (a : Answer). a .rows) (c .answers)) (lines-of-rows (closedReading d bs .rows) (c .behind)) in
+  -- the text of the table is the listing's
+  pub text-listed : (a : Answer) (table : List ℕ) → Closed d bs a table → tableText (a .rows) table (length bs) (a .skipped) ≡ listed d bs
+  unfolding listed tableText
+  text-listed a table c =
+      let n : a .rows ≡ length (closedReading d bs .rows) = ap (λ (a : Answer). a .rows) (c .answers) in
+      let t : tableLines (a .rows) table ≡ rowLines (closedReading d bs .rows) =
+      rw (c .lies, n) (lines-of-rows (closedReading d bs .rows) (c .behind)) in
       let s : a .skipped ≡ closedReading d bs .skipped = ap (λ (a : Answer). a .skipped) (c .answers) in
-      rw (t, s) at p
+      rw (t, s)
+
+  -- so what is written for the table is the listing
+  pub writes-listed : (a : Answer) (table out : List ℕ) (r : Written) (after : List ℕ) → Closed d bs a table
+      → Writes 0 (tableText (a .rows) table (length bs) (a .skipped)) out r after → Writes 0 (listed d bs) out r after
+  writes-listed a table out r after c w = rw (text-listed a table c) at w
 
 rows-most : (ws : List Row) → length (rowLines ws) ≤ 24 * length ws
 unfolding rowLines
@@ -102,32 +111,48 @@ listed-most d bs h =
     let r = rows-in-bytes d true (length bs) bs in
     omega arith
 
--- -- The three answers
+-- every output fits in the buffer for it
+pub listing-most : (d : Dialect) (bs : List ℕ) → length (listing d bs) ≤ textRoom
+unfolding listing refusedLine
+listing-most d bs = go (decLt maxInput (length bs))
+  where
+    go : Dec (maxInput < length bs) → length (cond (ltb maxInput (length bs)) refusedLine (listed d bs)) ≤ textRoom
+    go (yes h) = rw (lt-ltb maxInput (length bs) h) (omega arith)
+    go (no h) = rw (le-ltb maxInput (length bs) (omega arith)) (listed-most d bs (omega arith))
 
-module _ (d : Dialect) (bs out : List ℕ) where
-  -- a buffer that some listing would not fit in
-  pub listing-refused : length out < textRoom → Lists d bs out (record { refusal = 51; size = 0 }) out
-  listing-refused h = record {
-    writes = rw (lt-ltb (length out) textRoom h) (unfit 51 (listing d bs) out (λ e. omega arith));
-    counts = (omega arith, refl);
-  }
+-- -- The two outputs
 
-  module _ (room : textRoom ≤ length out) where
-    written : (text after : List ℕ) (end : ℕ) → listing d bs ≡ text → length text ≤ length out → Puts text out 0 end after → Lists d bs out (record { refusal = 0; size = end }) after
-    written text after end e h p =
-        let l : end ≤ length after = omega (arith, p .ends, puts-length p) in
-        record {
-          writes =
-              rw (le-ltb (length out) textRoom room, e) (done 0 text out after end refl (omega (arith, p .ends)) (omega (arith, p .ends)) (p .leaves));
-          counts = (l, sym (length-take-le end after l));
-        }
+module _ (d : Dialect) (bs out : List ℕ) (r : Written) (after : List ℕ) where
+  -- too many bytes: only the refusal
+  pub listing-long : maxInput < length bs → Writes 0 refusedLine out r after → Writes 0 (listing d bs) out r after
+  unfolding listing
+  listing-long h w = rw (lt-ltb maxInput (length bs) h) w
 
-    -- too many bytes: only the refusal
-    pub listing-long : (after : List ℕ) (end : ℕ) → maxInput < length bs → Puts refusedLine out 0 end after → Lists d bs out (record { refusal = 0; size = end }) after
-    unfolding listing refusedLine
-    listing-long after end h p = written refusedLine after end (rw (lt-ltb maxInput (length bs) h)) (omega arith) p
+  -- the lines of the closed reading
+  pub listing-whole : length bs ≤ maxInput → Writes 0 (listed d bs) out r after → Writes 0 (listing d bs) out r after
+  unfolding listing
+  listing-whole h w = rw (le-ltb maxInput (length bs) h) w
 
-    -- the lines of the closed reading
-    pub listing-whole : (after : List ℕ) (end : ℕ) → length bs ≤ maxInput → Puts (listed d bs) out 0 end after → Lists d bs out (record { refusal = 0; size = end }) after
-    unfolding listing
-    listing-whole after end h p = written (listed d bs) after end (rw (le-ltb maxInput (length bs) h)) (omega (arith, listed-most d bs h)) p
+-- a buffer that holds the text is written
+pub writes-puts : {text out after : List ℕ} {r : Written} → Writes 0 text out r after → length text ≤ length out
+    → Puts text out 0 (r .size) after
+writes-puts {text} {out} {after} {r} w h = record {
+  leaves = w .leaves ∙ rw (le-leb (length text) (length out) h);
+  ends = ap (λ (a : Written). a .size) (w .answers) ∙ rw (le-leb (length text) (length out) h, zero-add);
+}
+
+-- a listing that was put ends within the buffer for it
+pub listing-ends : (d : Dialect) (bs : List ℕ) {out after : List ℕ} {end : ℕ} → Puts (listing d bs) out 0 end after → textRoom ≡ length out
+    → end ≤ length after
+listing-ends d bs p h = omega (arith, p .ends, puts-length p, listing-most d bs)
+
+-- -- A text that is put is written
+
+-- a text that does not fit
+pub writes-short : (text out : List ℕ) → length out < length text → Writes 0 text out (record { refusal = 51; size = 0 }) out
+writes-short text out h = short 0 text out refl h
+
+-- a text that fits
+pub writes-done : {text out after : List ℕ} {end : ℕ} → Puts text out 0 end after → length text ≤ length out
+    → Writes 0 text out (record { refusal = 0; size = end }) after
+writes-done {text} {out} {after} {end} p h = done 0 text out after end refl (omega (arith, p .ends)) (omega (arith, p .ends)) (p .leaves)

@@ -1,9 +1,8 @@
 -- The lines of a listing, as bytes (paper 01, "The listing").
 use mathlib.Core.Bool.{cond}
 use mathlib.Core.List.{List, [], _∷_, _++_}
-use Prim.Native.Nat.{ℕ, zero, suc}
+use Prim.Native.Nat.{ℕ}
 use lib.Dec.{eqb}
-use lib.ListN.{getD, drop}
 use Rattle.reading.specs.declared.Row.{Row}
 use Rattle.listing.specs.Decimal.{decimal}
 
@@ -50,14 +49,3 @@ endLine size skipped = (101 ∷ 110 ∷ 100 ∷ []) ++ fields size skipped
 -- the whole output for an input that is too long: `refused`, tab, `4`
 unfoldable pub refusedLine : List ℕ
 refusedLine = 114 ∷ 101 ∷ 102 ∷ 117 ∷ 115 ∷ 101 ∷ 100 ∷ tab ∷ 52 ∷ lineFeed ∷ []
-
--- -- Rows in a table
-
--- the first three numbers of a table as a row
-abbrev pub firstOf : List ℕ → Row
-firstOf table = record { offset = getD table 0 0; size = getD table 1 0; kind = getD table 2 0 }
-
--- the lines of the first n rows of a table
-unfoldable pub tableLines : ℕ → List ℕ → List ℕ
-tableLines zero table = []
-tableLines (suc n) table = rowLine (firstOf table) ++ tableLines n (drop 3 table)

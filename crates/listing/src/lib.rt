@@ -3,15 +3,15 @@
 use capture::Dialect;
 use digits::Written;
 ghost use mathlib.Core.Path.{_≡_};
-ghost use mathlib.Core.List.{[], _∷_, _++_};
+ghost use mathlib.Core.List.{[], _∷_};
 ghost use Prim.Native.Nat.{_+_, _*_, _≤_, _<_};
 ghost use lib.ListN.{length, drop};
+ghost use Rattle.digits.specs.Stores.{Writes};
 ghost use Rattle.listing.specs.Decimal.{decimal, width};
-ghost use Rattle.listing.specs.Lines.{letter, field, fields, headerLine, rowLine, tableLines, endLine, firstOf};
-ghost use Rattle.listing.specs.Puts.{Puts};
-ghost use Rattle.listing.specs.Zeros.{Zeros};
-ghost use Rattle.listing.specs.Gather.{Appends, Gathers};
-ghost use Rattle.listing.specs.Listing.{listed, textRoom, dialectNumber, Lists};
+ghost use Rattle.listing.specs.Lines.{letter, field, fields, rowLine, endLine};
+ghost use Rattle.listing.specs.Gather.{Gathers, Lent};
+ghost use Rattle.listing.specs.Listing.{listed, listing, dialectNumber};
+ghost use Rattle.listing.specs.Internal.{Puts, Appends, Within, tableLines, tableText, firstOf, textRoom};
 
 // The most bytes of input that are listed.
 pub const MAX_INPUT: usize = 65536;
@@ -22,7 +22,8 @@ pub const OUTPUT_TOO_SHORT: u32 = 51;
 // One byte more than is listed: it is reached by an input that is too long.
 pub const INPUT_ROOM: usize = 65537;
 
-// Room for 8,192 lines of at most 24 bytes (a letter, two tabs, two numbers of at most 10 digits, a line feed), the first line with 18 and the last one with at most 26.
+// Room for 8,192 lines of at most 24 bytes (a letter, two tabs, two numbers of at most 10 digits, a line feed),
+// the first line with 18 and the last one with at most 26.
 pub const TEXT_ROOM: usize = 196652;
 
 // Three numbers for each of 8,192 rows: the shortest frame has 8 bytes, so an input within the limit has no more (`rows-in-bytes`).
@@ -30,29 +31,42 @@ const TABLE_ROOM: usize = 24576;
 
 const STANDARD_INPUT: i32 = 0;
 
+const STANDARD_OUTPUT: i32 = 1;
+
+const STANDARD_ERROR: i32 = 2;
+
+// How often in a row a signal may interrupt a read or a write; then it counts as failed.
+const MOST_TRIES: u32 = 1000000;
+
 const TAB: u8 = 9;
 
 const LINE_FEED: u8 = 10;
 
-// -- Buffers
+// What standard input gave: so many bytes, or a read failed.
+pub enum Input {
+    Read(usize),
+    Failed,
+}
+
+// -- Buffers: what they hold before they are written is nobody's concern, so their promises give the length alone.
 
 // Zeros for the input.
-pub fn input_buffer() -> [u8; INPUT_ROOM]
-    ensures { λ r. ⌜ Zeros 65537 r ⌝ }
+fn input_buffer() -> [u8; INPUT_ROOM]
+    ensures { λ r. ⌜ 65537 ≡ length r ⌝ }
 {
     [0; INPUT_ROOM]
 }
 
 // Zeros for the text of any listing.
-pub fn text_buffer() -> [u8; TEXT_ROOM]
-    ensures { λ r. ⌜ Zeros 196652 r ⌝ }
+fn text_buffer() -> [u8; TEXT_ROOM]
+    ensures { λ r. ⌜ textRoom ≡ length r ⌝ }
 {
     [0; TEXT_ROOM]
 }
 
 // Zeros for the rows.
 fn row_table() -> [u32; TABLE_ROOM]
-    ensures { λ r. ⌜ Zeros 24576 r ⌝ }
+    ensures { λ r. ⌜ 24576 ≡ length r ⌝ }
 {
     [0; TABLE_ROOM]
 }
@@ -66,7 +80,7 @@ fn least(a: usize, b: usize) -> usize
     b
 }
 
-// -- Text
+// -- Text, and how long it is
 
 // Puts one byte into the buffer.
 fn put_byte(out: &mut [u8], at: usize, b: u8) -> usize
@@ -124,9 +138,52 @@ fn width_of(v: u32) -> usize
     10
 }
 
+// How many bytes two numbers take to the end of a line: two tabs, their digits, a line feed.
+fn fields_size(a: u32, b: u32) -> usize
+    ensures { λ r. ⌜ r ≡ length (fields a b) ⌝ }
+{
+    3 + width_of(a) + width_of(b)
+}
+
+// How many bytes the line of the row takes that starts at an index of the table.
+fn row_size(table: &[u32], index: usize) -> usize
+    requires { ⌜ index + 3 ≤ length (now table) ⌝ }
+    ensures { λ r. ⌜ r ≡ length (rowLine (firstOf (drop index (now (table .entry))))) ⌝ }
+{
+    1 + fields_size(table[index], table[index + 1])
+}
+
+// How many bytes the lines of the first rows of the table take.
+fn rows_size(table: &[u32], rows: usize) -> usize
+    requires { ⌜ rows ≤ 8192 ⌝ }
+    requires { ⌜ 3 * rows ≤ length (now table) ⌝ }
+    ensures { λ r. ⌜ r ≡ length (tableLines rows (now (table .entry))) ⌝ }
+{
+    let mut size: usize = 0;
+    let mut i: usize = 0;
+    while i < rows {
+        let index = 3 * i;
+        let more = row_size(table, index);
+        size = size + more;
+        i = i + 1;
+    }
+    size
+}
+
+// How many bytes the text of the table takes: the first line has 18, and the word `end` 3.
+fn text_size(table: &[u32], rows: usize, size: u32, skipped: u32) -> usize
+    requires { ⌜ rows ≤ 8192 ⌝ }
+    requires { ⌜ 3 * rows ≤ length (now table) ⌝ }
+    ensures { λ r. ⌜ r ≡ length (tableText rows (now (table .entry)) size skipped) ⌝ }
+{
+    let lines = rows_size(table, rows);
+    let last = fields_size(size, skipped);
+    21 + lines + last
+}
+
 // Puts a number in decimal, its last digit first.
 fn put_decimal(out: &mut [u8], at: usize, v: u32) -> usize
-    requires { ⌜ at + 10 ≤ length (now out) ⌝ }
+    requires { ⌜ at + length (decimal v) ≤ length (now out) ⌝ }
     ensures { λ r. ⌜ Puts (decimal v) (now (out .entry)) at r (now (out .exit)) ⌝ }
 {
     let n = width_of(v);
@@ -141,7 +198,7 @@ fn put_decimal(out: &mut [u8], at: usize, v: u32) -> usize
 }
 
 fn put_field(out: &mut [u8], at: usize, v: u32) -> usize
-    requires { ⌜ at + 11 ≤ length (now out) ⌝ }
+    requires { ⌜ at + length (field v) ≤ length (now out) ⌝ }
     ensures { λ r. ⌜ Puts (field v) (now (out .entry)) at r (now (out .exit)) ⌝ }
 {
     let digits = put_byte(out, at, TAB);
@@ -149,7 +206,7 @@ fn put_field(out: &mut [u8], at: usize, v: u32) -> usize
 }
 
 fn put_fields(out: &mut [u8], at: usize, a: u32, b: u32) -> usize
-    requires { ⌜ at + 23 ≤ length (now out) ⌝ }
+    requires { ⌜ at + length (fields a b) ≤ length (now out) ⌝ }
     ensures { λ r. ⌜ Puts (fields a b) (now (out .entry)) at r (now (out .exit)) ⌝ }
 {
     let second = put_field(out, at, a);
@@ -175,8 +232,8 @@ fn letter_of(kind: u32) -> u8
 
 // Puts the line of the row that starts at an index of the table.
 fn put_row(out: &mut [u8], at: usize, table: &[u32], index: usize) -> usize
-    requires { ⌜ at + 24 ≤ length (now out) ⌝ }
     requires { ⌜ index + 3 ≤ length (now table) ⌝ }
+    requires { ⌜ at + length (rowLine (firstOf (drop index (now table)))) ≤ length (now out) ⌝ }
     ensures { λ r. ⌜ Puts (rowLine (firstOf (drop index (now (table .entry))))) (now (out .entry)) at r (now (out .exit)) ⌝ }
 {
     let kind = letter_of(table[index + 2]);
@@ -186,8 +243,8 @@ fn put_row(out: &mut [u8], at: usize, table: &[u32], index: usize) -> usize
 
 // Puts the lines of the first rows of the table.
 fn put_rows(out: &mut [u8], from: usize, table: &[u32], rows: usize) -> usize
-    requires { ⌜ from + 24 * rows ≤ length (now out) ⌝ }
     requires { ⌜ 3 * rows ≤ length (now table) ⌝ }
+    requires { ⌜ from + length (tableLines rows (now table)) ≤ length (now out) ⌝ }
     ensures { λ r. ⌜ Puts (tableLines rows (now (table .entry))) (now (out .entry)) from r (now (out .exit)) ⌝ }
 {
     let mut at = from;
@@ -201,7 +258,7 @@ fn put_rows(out: &mut [u8], from: usize, table: &[u32], rows: usize) -> usize
 }
 
 fn put_end(out: &mut [u8], at: usize, size: u32, skipped: u32) -> usize
-    requires { ⌜ at + 26 ≤ length (now out) ⌝ }
+    requires { ⌜ at + length (endLine size skipped) ≤ length (now out) ⌝ }
     ensures { λ r. ⌜ Puts (endLine size skipped) (now (out .entry)) at r (now (out .exit)) ⌝ }
 {
     let numbers = put_text(out, at, b"end");
@@ -222,52 +279,83 @@ fn number_of(d: Dialect) -> u32
 
 // Puts the first line, the lines of the table's rows, and the last line.
 fn put_all(out: &mut [u8], table: &[u32], rows: usize, size: u32, skipped: u32) -> usize
-    requires { ⌜ 44 + 24 * rows ≤ length (now out) ⌝ }
     requires { ⌜ 3 * rows ≤ length (now table) ⌝ }
-    ensures { λ r. ⌜ Puts (headerLine ++ (tableLines rows (now (table .entry)) ++ endLine size skipped)) (now (out .entry)) 0 r (now (out .exit)) ⌝ }
+    requires { ⌜ length (tableText rows (now table) size skipped) ≤ length (now out) ⌝ }
+    ensures { λ r. ⌜ Puts (tableText rows (now (table .entry)) size skipped) (now (out .entry)) 0 r (now (out .exit)) ⌝ }
 {
     let first = put_text(out, 0, b"kind\tplace\tlength\n");
     let last = put_rows(out, first, table, rows);
     put_end(out, last, size, skipped)
 }
 
-// Puts the listing of an input within the limit.
-fn put_listing(bytes: &[u8], out: &mut [u8], d: Dialect) -> usize
+// Writes a text at the start of the buffer.
+fn write_text(out: &mut [u8], text: &[u8]) -> Written
+    ensures { λ r. ⌜ Writes 0 (now (text .entry)) (now (out .entry)) r (now (out .exit)) ⌝ }
+{
+    if out.len() < text.len() {
+        return Written {
+            refusal: OUTPUT_TOO_SHORT,
+            size: 0,
+        };
+    }
+    let size = put_text(out, 0, text);
+    Written {
+        refusal: 0,
+        size: size,
+    }
+}
+
+// Writes the text of a table: it is measured first, since a refusal writes nothing.
+fn write_table(out: &mut [u8], table: &[u32], rows: usize, size: u32, skipped: u32) -> Written
+    requires { ⌜ rows ≤ 8192 ⌝ }
+    requires { ⌜ 3 * rows ≤ length (now table) ⌝ }
+    ensures { λ r. ⌜ Writes 0 (tableText rows (now (table .entry)) size skipped) (now (out .entry)) r (now (out .exit)) ⌝ }
+{
+    if out.len() < text_size(table, rows, size, skipped) {
+        return Written {
+            refusal: OUTPUT_TOO_SHORT,
+            size: 0,
+        };
+    }
+    let end = put_all(out, table, rows, size, skipped);
+    Written {
+        refusal: 0,
+        size: end,
+    }
+}
+
+// Writes the lines of the closed reading of an input within the limit.
+fn write_listed(bytes: &[u8], out: &mut [u8], d: Dialect) -> Written
     requires { ⌜ length (now bytes) ≤ 65536 ⌝ }
-    requires { ⌜ textRoom ≤ length (now out) ⌝ }
-    ensures { λ r. ⌜ Puts (listed d (now (bytes .entry))) (now (out .entry)) 0 r (now (out .exit)) ⌝ }
+    ensures { λ r. ⌜ Writes 0 (listed d (now (bytes .entry))) (now (out .entry)) r (now (out .exit)) ⌝ }
 {
     let mut table = row_table();
     let number = number_of(d);
     let a = capture::closed_reading(number, bytes, &mut table);
     let size = bytes.len() as u32;
     let skipped = a.skipped as u32;
-    put_all(out, &table, a.rows, size, skipped)
+    write_table(out, &table, a.rows, size, skipped)
 }
 
-// Writes what a listing program prints for these bytes: the closed reading, one line for each frame, or `refused`, tab, `4` for over 65,536 bytes.
+// Writes what a listing program prints for these bytes: the closed reading, one line for each frame,
+// or `refused`, tab, `4` for over 65,536 bytes.
 // For the 9 bytes `!E0000`, CR, LF, space it is `kind`, tab, `place`, tab, `length`; `E`, tab, `0`, tab, `8`; `end`, tab, `9`, tab, `1`.
 pub fn write_listing(bytes: &[u8], out: &mut [u8], d: Dialect) -> Written
-    ensures { λ r. ⌜ Lists d (now (bytes .entry)) (now (out .entry)) r (now (out .exit)) ⌝ }
+    ensures { λ r. ⌜ Writes 0 (listing d (now (bytes .entry))) (now (out .entry)) r (now (out .exit)) ⌝ }
 {
-    if out.len() < TEXT_ROOM {
-        return Written {
-            refusal: OUTPUT_TOO_SHORT,
-            size: 0,
-        };
-    }
     if MAX_INPUT < bytes.len() {
-        let size = put_text(out, 0, b"refused\t4\n");
-        return Written {
-            refusal: 0,
-            size: size,
-        };
+        return write_text(out, b"refused\t4\n");
     }
-    let size = put_listing(bytes, out, d);
-    Written {
-        refusal: 0,
-        size: size,
-    }
+    write_listed(bytes, out, d)
+}
+
+// Puts the listing into a buffer that holds every listing, and answers its length.
+fn put_listing(bytes: &[u8], out: &mut [u8], d: Dialect) -> usize
+    requires { ⌜ textRoom ≤ length (now out) ⌝ }
+    ensures { λ r. ⌜ Puts (listing d (now (bytes .entry))) (now (out .entry)) 0 r (now (out .exit)) ⌝ }
+{
+    let written = write_listing(bytes, out, d);
+    written.size
 }
 
 // -- Standard input
@@ -282,18 +370,104 @@ fn append(buffer: &mut [u8], size: usize, block: &[u8], got: usize) -> usize
     put_text(buffer, size, &block[..n])
 }
 
-// Reads standard input, block by block, into the buffer until it ends or the buffer is full, and answers how many bytes there are.
-// Fewer bytes than the block holds are not the end; none are, and so is a read that fails.
-pub fn gather(block: &mut [u8], buffer: &mut [u8]) -> usize
-    ensures { λ r. ⌜ Gathers (now (buffer .entry)) r (now (buffer .exit)) × (length (now (block .exit)) ≡ length (now (block .entry))) ⌝ }
+// One read into the block, tried again where a signal interrupts it.
+fn read_block(block: &mut [u8]) -> Input
+    ensures { λ r. ⌜ Within r (now (block .exit)) × (length (now (block .exit)) ≡ length (now (block .entry))) ⌝ }
 {
+    let mut tries: u32 = 0;
+    while tries < MOST_TRIES {
+        let answer = libc::read(STANDARD_INPUT, block);
+        if 0 <= answer {
+            let got = io::count(answer, block);
+            return Input::Read(got);
+        }
+        if os::errno() != libc::EINTR {
+            return Input::Failed;
+        }
+        tries = tries + 1;
+    }
+    Input::Failed
+}
+
+// Reads standard input, block by block, into the buffer until it ends or the buffer is full, and answers how many bytes there are.
+// Fewer bytes than the block holds are not the end; none are. An empty block can take none, so no read can succeed with it.
+pub fn gather(block: &mut [u8], buffer: &mut [u8]) -> Input
+    ensures { λ r. ⌜ Gathers (now (block .entry)) (now (buffer .entry)) r (now (block .exit)) (now (buffer .exit)) ⌝ }
+{
+    if block.len() == 0 {
+        return Input::Failed;
+    }
     let mut size: usize = 0;
     while size < buffer.len() {
-        let got = io::count(libc::read(STANDARD_INPUT, block), block);
+        let input = read_block(block);
+        let Input::Read(got) = input else {
+            return Input::Failed;
+        };
         if got == 0 {
-            return size;
+            return Input::Read(size);
         }
         size = append(buffer, size, block, got);
     }
-    size
+    Input::Read(size)
+}
+
+// -- Standard output
+
+// One write, tried again where a signal interrupts it; answers how many of the first bytes were taken, 0 where it fails.
+fn write_part(fd: i32, text: &[u8]) -> usize
+    ensures { λ r. ⌜ r ≤ length (now (text .entry)) ⌝ }
+{
+    let mut tries: u32 = 0;
+    while tries < MOST_TRIES {
+        let answer = libc::write(fd, text);
+        if 0 <= answer {
+            return io::count(answer, text);
+        }
+        if os::errno() != libc::EINTR {
+            return 0;
+        }
+        tries = tries + 1;
+    }
+    0
+}
+
+// Writes the whole text, part by part, and answers whether it could.
+fn write_whole(fd: i32, text: &[u8]) -> bool {
+    let mut at: usize = 0;
+    while at < text.len() {
+        let taken = write_part(fd, &text[at..]);
+        if taken == 0 {
+            return false;
+        }
+        at = at + taken;
+    }
+    true
+}
+
+// Says on standard error what a program can't do.
+fn complain(program: &[u8], what: &[u8]) {
+    write_whole(STANDARD_ERROR, program);
+    write_whole(STANDARD_ERROR, what);
+}
+
+// -- The programs
+
+// Lists standard input, read by the block, on standard output. Where a read fails nothing is listed, so that no part of a
+// capture is taken for the whole, and a line on standard error says so; another one says that a write failed.
+pub fn list_input(program: &[u8], block: &mut [u8], d: Dialect)
+    ensures { λ _. ⌜ Lent (now (block .entry)) (now (block .exit)) ⌝ }
+{
+    let mut buffer = input_buffer();
+    let mut text = text_buffer();
+    let input = gather(block, &mut buffer);
+    let Input::Read(size) = input else {
+        complain(program, b": standard input cannot be read\n");
+        return;
+    };
+    let end = put_listing(&buffer[..size], &mut text, d);
+    let printed = write_whole(STANDARD_OUTPUT, &text[..end]);
+    if printed {
+        return;
+    }
+    complain(program, b": standard output cannot be written\n");
 }

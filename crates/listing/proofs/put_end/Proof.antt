@@ -1,6 +1,8 @@
 -- `listing::put_end` meets its contract: the word, then the numbers.
+use Rattle.listing.proofs.LineLaws.{length-end}
+use native.Mathlib.Omega.{arith}
 use Rattle.listing.specs.Lines.{endLine}
-use Rattle.listing.proofs.PutLaws.{puts-then}
+use Rattle.listing.proofs.PutLaws.{puts-then, puts-length}
 use borrow.Author.Needs.{needs}
 use Rattle.listing.proofs.put_end.Statement.{statement}
 use Rattle.listing.proofs.put_end.Tie as tie
@@ -9,10 +11,15 @@ slice-aggregate-put-text : tie.Need-slice-aggregate-put-text
 slice-aggregate-put-text c = search needs
 
 put-text-requires : tie.Need-put-text-requires
-put-text-requires c κs = search needs
+put-text-requires c κs =
+    let a = c .before .before .before .args in
+    omega (arith, length-end (a .size) (a .skipped))
 
 put-fields-requires : tie.Need-put-fields-requires
-put-fields-requires c κs = search needs
+put-fields-requires c κs =
+    let a = c .before .before .before .before .before .before .before .args in
+    let e = c .before .before .before .put-text .ensures in
+    omega (arith, length-end (a .size) (a .skipped), e .ends, puts-length e)
 
 same-length : tie.Need-same-length
 same-length c = search needs

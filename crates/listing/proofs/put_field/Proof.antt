@@ -1,15 +1,21 @@
 -- `listing::put_field` meets its contract: a tab, then the number.
+use native.Mathlib.Omega.{arith}
+use Rattle.listing.proofs.DecimalLaws.{length-decimal}
+use Rattle.listing.proofs.LineLaws.{length-field}
 use Rattle.listing.specs.Lines.{field}
-use Rattle.listing.proofs.PutLaws.{puts-then}
+use Rattle.listing.proofs.PutLaws.{puts-then, puts-length}
 use borrow.Author.Needs.{needs}
 use Rattle.listing.proofs.put_field.Statement.{statement}
 use Rattle.listing.proofs.put_field.Tie as tie
 
 put-byte-requires : tie.Need-put-byte-requires
-put-byte-requires c κs = search needs
+put-byte-requires c κs = omega (arith, length-field (c .before .before .args .v))
 
 put-decimal-requires : tie.Need-put-decimal-requires
-put-decimal-requires c κs = search needs
+put-decimal-requires c κs =
+    let v = c .before .before .before .before .before .before .args .v in
+    let e = c .before .before .before .put-byte .ensures in
+    omega (arith, length-field v, length-decimal v, e .ends, puts-length e)
 
 same-length : tie.Need-same-length
 same-length c = search needs

@@ -1,5 +1,7 @@
 -- `listing::put_row` meets its contract: the letter, then the numbers.
-use Rattle.listing.proofs.LineLaws.{puts-row}
+use native.Mathlib.Omega.{arith}
+use Rattle.listing.proofs.PutLaws.{puts-length}
+use Rattle.listing.proofs.LineLaws.{puts-row, length-row-at}
 use borrow.Author.Needs.{needs}
 use Rattle.listing.proofs.put_row.Statement.{statement}
 use Rattle.listing.proofs.put_row.Tie as tie
@@ -17,7 +19,9 @@ letter-of-requires : tie.Need-letter-of-requires
 letter-of-requires c κs = search needs
 
 put-byte-requires : tie.Need-put-byte-requires
-put-byte-requires c κs = search needs
+put-byte-requires c κs =
+    let a = c .before .before .before .before .before .args in
+    omega (arith, length-row-at (a .table .now) (a .index))
 
 mul-put-fields : tie.Need-mul-put-fields
 mul-put-fields c = search needs
@@ -35,13 +39,20 @@ shared-slice-read-put-fields-2 : tie.Need-shared-slice-read-put-fields-2
 shared-slice-read-put-fields-2 c = search needs
 
 put-fields-requires : tie.Need-put-fields-requires
-put-fields-requires c κs = search needs
+put-fields-requires c κs =
+    let a = c .before .before .before .before .before .before .before .before .before .before .before .args in
+    let e = c .before .before .before .before .before .put-byte .ensures in
+    omega (arith, length-row-at (a .table .now) (a .index), e .ends, puts-length e)
 
 same-length : tie.Need-same-length
 same-length c = search needs
 
 returns : tie.Need-returns
-returns c = let a = c .before .before .before .before .before .before .before .before .before .before .before .before .before .before .args in puts-row (a .table .now) (a .index) _ (c .before .before .before .before .before .before .before .before .before .before .letter-of .ensures) (c .before .before .before .before .before .before .before .before .put-byte .ensures) (c .before .before .put-fields .ensures)
+returns c =
+    let a = c .before .before .before .before .before .before .before .before .before .before .before .before .before .before .args in
+    let k = c .before .before .before .before .before .before .before .before .before .before .letter-of .ensures in
+    let e = c .before .before .before .before .before .before .before .before .put-byte .ensures in
+    puts-row (a .table .now) (a .index) _ k e (c .before .before .put-fields .ensures)
 
 pub put-row-spec : {M : Type 1} → statement M
 put-row-spec =

@@ -1,8 +1,7 @@
 -- `listing::put_rows` meets its contract. The loop keeps that storing the lines of the rows that are left completes the text.
-use mathlib.Core.Path.{_≡_, refl, sym, ap, _∙_}
-use Prim.Native.Nat.{_≤_, _-_}
+use Prim.Native.Nat.{_-_}
 use native.Mathlib.Omega.{arith}
-use Rattle.listing.proofs.LineLaws.{Listing, listing-start, listing-next, listing-over}
+use Rattle.listing.proofs.LineLaws.{Listing, reached-fits, listing-start, listing-next, listing-over}
 use Rattle.listing.proofs.PutLaws.{puts-length}
 use borrow.Author.Needs.{needs}
 use Rattle.listing.proofs.put_rows.Statement.{statement}
@@ -21,7 +20,11 @@ mul-index : tie.Need-mul-index Inv-loop μ-loop
 mul-index c = search needs
 
 put-row-requires : tie.Need-put-row-requires Inv-loop μ-loop
-put-row-requires c κs = search needs
+put-row-requires c κs =
+    let l = c .before .before .loop in
+    let a = c .before .before .before .before .before .args in
+    let f = reached-fits (a .table .now) (a .from) (a .rows) (l .i) (l .at) (l .inv .reached) (omega arith) in
+    (omega arith, omega (arith, l .inv .same-length))
 
 add-i : tie.Need-add-i Inv-loop μ-loop
 add-i c = search needs
