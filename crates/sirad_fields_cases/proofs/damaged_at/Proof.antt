@@ -13,55 +13,42 @@ Inv-loop s₀ at kind before sum₀ kept values i₀ s sum i = (length s ≡ len
 abbrev μ-loop : tie.MeasureT-loop
 μ-loop s₀ at kind before sum₀ kept values i₀ s sum i = 15 - i
 
--- src/main.rt:226:9
 returns : tie.Need-returns Inv-loop μ-loop
 returns c = search needs
 
--- src/main.rt:228:16
 slice-read-kept : tie.Need-slice-read-kept Inv-loop μ-loop
 slice-read-kept c = search needs
 
--- src/main.rt:246:5
 loop-holds : tie.Need-loop-holds Inv-loop μ-loop
 loop-holds c = search needs
 
--- src/main.rt:247:17
 array-read-s : tie.Need-array-read-s Inv-loop μ-loop
 array-read-s c = search needs
 
--- src/main.rt:247:9
 slice-write-s : tie.Need-slice-write-s Inv-loop μ-loop
 slice-write-s c = omega arith
 
--- src/main.rt:248:26
 read-sum-requires : tie.Need-read-sum-requires Inv-loop μ-loop
 read-sum-requires c κs = search needs
 
--- src/main.rt:248:9
 mixed-requires : tie.Need-mixed-requires Inv-loop μ-loop
 mixed-requires c κs = search needs
 
--- src/main.rt:246:9
 add-i : tie.Need-add-i Inv-loop μ-loop
 add-i c = omega arith
 
--- src/main.rt:246:5
 loop-less : tie.Need-loop-less Inv-loop μ-loop
 loop-less c = omega arith
 
--- src/main.rt:246:5
 loop-again : tie.Need-loop-again Inv-loop μ-loop
 loop-again c = (simp length-set (omega arith), omega arith)
 
--- src/main.rt:250:5
 slice-write-s-2 : tie.Need-slice-write-s-2 Inv-loop μ-loop
 slice-write-s-2 c = omega arith
 
--- src/main.rt:223:1
 same-length : tie.Need-same-length Inv-loop μ-loop
 same-length c = simp length-set (omega arith)
 
--- src/main.rt:223:1
 returns-2 : tie.Need-returns-2 Inv-loop μ-loop
 returns-2 c = search needs
 

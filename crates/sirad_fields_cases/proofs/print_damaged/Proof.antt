@@ -13,47 +13,36 @@ Inv-loop name kind s₀ sum₀ at₀ t6 s sum at = (at ≤ length s) × (length 
 abbrev μ-loop : tie.MeasureT-loop
 μ-loop name kind s₀ sum₀ at₀ t6 s sum at = length s - at
 
--- src/main.rt:261:5
 loop-holds : tie.Need-loop-holds Inv-loop μ-loop
 loop-holds c = search needs
 
--- src/main.rt:262:9
 damaged-at-requires : tie.Need-damaged-at-requires Inv-loop μ-loop
 damaged-at-requires c κs = search needs
 
--- src/main.rt:263:14
 add-at : tie.Need-add-at Inv-loop μ-loop
 add-at c = search needs
 
--- src/main.rt:261:5
 loop-less : tie.Need-loop-less Inv-loop μ-loop
 loop-less c = omega arith
 
--- src/main.rt:261:5
 loop-again : tie.Need-loop-again Inv-loop μ-loop
 loop-again c = omega arith
 
--- src/main.rt:265:22
 slice-aggregate-start-line : tie.Need-slice-aggregate-start-line Inv-loop μ-loop
 slice-aggregate-start-line c = search needs
 
--- src/main.rt:265:5
 start-line-requires : tie.Need-start-line-requires Inv-loop μ-loop
 start-line-requires c κs = search needs
 
--- src/main.rt:266:5
 print-field-requires : tie.Need-print-field-requires Inv-loop μ-loop
 print-field-requires c κs = search needs
 
--- src/main.rt:267:5
 end-line-requires : tie.Need-end-line-requires Inv-loop μ-loop
 end-line-requires c κs = search needs
 
--- src/main.rt:258:1
 same-length : tie.Need-same-length Inv-loop μ-loop
 same-length c = omega arith
 
--- src/main.rt:258:1
 returns : tie.Need-returns Inv-loop μ-loop
 returns c = search needs
 
