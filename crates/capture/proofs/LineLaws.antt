@@ -13,21 +13,20 @@ use denote.Ref.{RefT, ptr, now}
 use Rattle.digits.specs.Stores.{stored}
 use Rattle.digits.proofs.Choices.{test}
 use Rattle.form.specs.declared.Judgement.{Judgement}
-use Rattle.reading.specs.Internal.{Gives}
 use Rattle.reading.specs.Leftmost.{RowsStand}
 use Rattle.reading.specs.Reading.{reading, flat}
 use Rattle.reading.specs.declared.Answer.{Answer}
 use Rattle.reading.specs.declared.Row.{Row}
 use Rattle.reading.proofs.LeftmostLaws.{closed-begins-leftmost, leftmost-exists}
 use Rattle.reading.proofs.Rows.{rows-stand}
-use Rattle.capture.specs.Dialects.{judgeOf}
-use Rattle.capture.specs.Entries.{maxBytes}
+use Rattle.capture.specs.Dialects.{dialectOf, dialectNumber, judgeOf}
+use Rattle.capture.specs.Entries.{maxBytes, readLeaves, Reads}
 use Rattle.capture.specs.Lines.{closedRows, firstRow, rowPart, emptyPart, chosen, partOf, lineOf, bytesOf, RefersTo}
 use Rattle.capture.specs.declared.Asked.{Asked}
 use Rattle.capture.specs.declared.Asked.the-variants.{Known, Unknown}
 use Rattle.capture.specs.declared.Dialect.{Dialect}
 use Rattle.capture.specs.declared.Part.{Part}
-use Rattle.capture.proofs.Wires.{lawful-of}
+use Rattle.capture.proofs.Wires.{lawful-of, number-names}
 
 -- the rows with some room are the first of all closed rows
 pub closed-rows-first : (d : Dialect) (bs : List ℕ) (room : ℕ) → reading (judgeOf d) true room bs .rows ≡ take room (closedRows d bs)
@@ -39,11 +38,15 @@ pub closed-rows-stand : (d : Dialect) (bs : List ℕ) → RowsStand (judgeOf d) 
 unfolding closedRows
 closed-rows-stand d bs = rows-stand (judgeOf d) (lawful-of d) true bs (length bs)
 
--- a table of three zeros at exit is the first row, or zeros
-pub first-stored : (d : Dialect) (bs : List ℕ) (r : Answer) (after : List ℕ) → Gives (judgeOf d) true bs (0 ∷ 0 ∷ 0 ∷ []) r after
+-- a table of three zeros at exit of the closed reading is the first row, or zeros
+pub first-stored : (d : Dialect) (number : ℕ) (bs : List ℕ) (r : Answer) (after : List ℕ) → number ≡ dialectNumber d → length bs ≤ maxBytes
+    → Reads number true bs (0 ∷ 0 ∷ 0 ∷ []) r after
     → record { offset = getD after 0 0; size = getD after 1 0; kind = getD after 2 0 } ≡ firstRow (closedRows d bs)
-unfolding stored flat
-first-stored d bs r after g = by-rows (closedRows d bs) (g .leaves ∙ ap (λ (ws : List Row). stored (0 ∷ 0 ∷ 0 ∷ []) 0 (flat ws)) (closed-rows-first d bs 1))
+unfolding readLeaves stored flat
+first-stored d number bs r after n l g =
+    let k : dialectOf number ≡ Known d = ap dialectOf n ∙ number-names d in
+    let s : after ≡ stored (0 ∷ 0 ∷ 0 ∷ []) 0 (flat (reading (judgeOf d) true 1 bs .rows)) = rw (k, le-ltb maxBytes (length bs) l) at (g .leaves) in
+    by-rows (closedRows d bs) (s ∙ ap (λ (ws : List Row). stored (0 ∷ 0 ∷ 0 ∷ []) 0 (flat ws)) (closed-rows-first d bs 1))
   where
     by-rows : (ws : List Row) → after ≡ stored (0 ∷ 0 ∷ 0 ∷ []) 0 (flat (take 1 ws)) → record { offset = getD after 0 0; size = getD after 1 0; kind = getD after 2 0 } ≡ firstRow ws
     by-rows [] e = rw e

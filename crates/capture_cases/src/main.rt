@@ -115,19 +115,19 @@ fn judgements(dialect: u32, bytes: &[u8]) {
     text(b"judged");
     let mut at: usize = 0;
     while at < bytes.len() {
-        verdict(capture::judge_at(dialect, bytes, at));
+        verdict(capture_judge::judge_at(dialect, bytes, at));
         at = at + 1;
     }
-    verdict(capture::judge_at(dialect, bytes, at));
-    verdict(capture::judge_at(dialect, bytes, BEYOND));
+    verdict(capture_judge::judge_at(dialect, bytes, at));
+    verdict(capture_judge::judge_at(dialect, bytes, BEYOND));
     text(b"\n");
 }
 
 fn read_into(dialect: u32, bytes: &[u8], table: &mut [u32], closed: bool) -> Answer {
     if closed {
-        return capture::closed_reading(dialect, bytes, table);
+        return capture_read::closed_reading(dialect, bytes, table);
     }
-    capture::open_reading(dialect, bytes, table)
+    capture_read::open_reading(dialect, bytes, table)
 }
 
 fn sized(dialect: u32, bytes: &[u8], size: usize, table: &mut [u32], closed: bool) {
@@ -186,8 +186,8 @@ fn split(dialect: u32, bytes: &[u8], k: usize) {
     }
     let mut first = [FILLED; 6];
     let mut both = [FILLED; 6];
-    let a = capture::open_reading(dialect, &bytes[..k], &mut first);
-    let b = capture::open_reading(dialect, bytes, &mut both);
+    let a = capture_read::open_reading(dialect, &bytes[..k], &mut first);
+    let b = capture_read::open_reading(dialect, bytes, &mut both);
     let rows = a.rows;
     text(b"split");
     field(k as u64);
@@ -200,8 +200,8 @@ fn split(dialect: u32, bytes: &[u8], k: usize) {
     let main = &bytes[..k];
     let standby = &bytes[k..];
     shown_part(
-        capture::choose_part(dialect, main, standby),
-        capture::choose_line(dialect, main, standby),
+        capture_lines::choose_part(dialect, main, standby),
+        capture_lines::choose_line(dialect, main, standby),
     );
 }
 

@@ -22,7 +22,7 @@ pub struct Millimetres {
 pub extern "C" fn vq_judge(dialect: u32, bytes: &[u8], offset: usize) -> JudgementNumbers
     ensures { λ r. ⌜ r ≡ verdictNumbers (verdict (dialectOf dialect) (now (bytes .entry)) offset) ⌝ }
 {
-    match capture::judge_at(dialect, bytes, offset) {
+    match capture_judge::judge_at(dialect, bytes, offset) {
         Verdict::Refused(number) => JudgementNumbers {
             refusal: number,
             state: 0,

@@ -17,24 +17,17 @@ use Rattle.reading.specs.Reading.{Reading, reading, flat, rowWidth, lengths}
 use Rattle.reading.specs.declared.Answer.{Answer}
 use Rattle.reading.specs.declared.Row.{Row}
 use Rattle.reading.proofs.Rows.{numbers-behind-stay, lengths-and-skips-are-next, next-within}
-use Rattle.capture.specs.Dialects.{judgeOf, dialectOf}
+use Rattle.capture.specs.Dialects.{dialectNumber, judgeOf, dialectOf}
 use Rattle.capture.specs.Entries.{maxBytes, readAnswer, readLeaves, Reads}
 use Rattle.capture.specs.declared.Asked.the-variants.{Known}
 use Rattle.capture.specs.declared.Dialect.{Dialect}
-use Rattle.capture.specs.declared.Dialect.the-variants.{Sirad, Mmwave}
-use Rattle.capture.proofs.Wires.{lawful-of}
+use Rattle.capture.proofs.Wires.{lawful-of, number-names}
 use Rattle.listing.specs.Lines.{headerLine, rowLine, rowLines, endLine, refusedLine}
-use Rattle.listing.specs.Listing.{closedReading, listed, listing, dialectNumber, maxInput}
+use Rattle.listing.specs.Listing.{closedReading, listed, listing, maxInput}
 use Rattle.listing.specs.Internal.{Puts, tableLines, tableText, textRoom}
 use Rattle.listing.proofs.PutLaws.{puts-length}
 use Rattle.listing.proofs.LineLaws.{lines-of-rows, row-most, end-most}
 use Rattle.listing.proofs.RoomLaws.{rows-in-bytes, room-enough}
-
--- the number of a dialect names it
-pub number-names : (d : Dialect) → dialectOf (dialectNumber d) ≡ Known d
-unfolding dialectOf dialectNumber
-number-names Sirad = refl
-number-names Mmwave = refl
 
 -- the closed reading of a dialect, as an answer and a table
 pub record Closed (d : Dialect) (bs : List ℕ) (a : Answer) (table : List ℕ) : Type 0 where

@@ -10,7 +10,7 @@ ghost use Rattle.digits.specs.Stores.{Writes};
 ghost use Rattle.listing.specs.Decimal.{decimal, width};
 ghost use Rattle.listing.specs.Lines.{letter, field, fields, rowLine, endLine};
 ghost use Rattle.listing.specs.Gather.{Gathers, Lent};
-ghost use Rattle.listing.specs.Listing.{listed, listing, dialectNumber};
+ghost use Rattle.listing.specs.Listing.{listed, listing};
 ghost use Rattle.listing.specs.Internal.{Puts, Appends, Within, tableLines, tableText, firstOf, textRoom};
 
 // The most bytes of input that are listed.
@@ -267,16 +267,6 @@ fn put_end(out: &mut [u8], at: usize, size: u32, skipped: u32) -> usize
 
 // -- The listing
 
-// The number of a dialect.
-fn number_of(d: Dialect) -> u32
-    ensures { λ r. ⌜ r ≡ dialectNumber d ⌝ }
-{
-    match d {
-        Dialect::Sirad => 0,
-        Dialect::Mmwave => 1,
-    }
-}
-
 // Puts the first line, the lines of the table's rows, and the last line.
 fn put_all(out: &mut [u8], table: &[u32], rows: usize, size: u32, skipped: u32) -> usize
     requires { ⌜ 3 * rows ≤ length (now table) ⌝ }
@@ -330,8 +320,8 @@ fn write_listed(bytes: &[u8], out: &mut [u8], d: Dialect) -> Written
     ensures { λ r. ⌜ Writes 0 (listed d (now (bytes .entry))) (now (out .entry)) r (now (out .exit)) ⌝ }
 {
     let mut table = row_table();
-    let number = number_of(d);
-    let a = capture::closed_reading(number, bytes, &mut table);
+    let number = capture_judge::number_of(d);
+    let a = capture_read::closed_reading(number, bytes, &mut table);
     let size = bytes.len() as u32;
     let skipped = a.skipped as u32;
     write_table(out, &table, a.rows, size, skipped)

@@ -10,7 +10,7 @@ ghost use Rattle.capture.specs.Entries.{Reads};
 pub extern "C" fn vq_open_reading(dialect: u32, bytes: &[u8], table: &mut [u32]) -> Answer
     ensures { λ r. ⌜ Reads dialect false (now (bytes .entry)) (now (table .entry)) r (now (table .exit)) ⌝ }
 {
-    capture::read_capture(dialect, bytes, table, false)
+    capture_read::read_capture(dialect, bytes, table, false)
 }
 
 // The closed reading: the same for bytes behind which nothing comes.
@@ -18,5 +18,5 @@ pub extern "C" fn vq_open_reading(dialect: u32, bytes: &[u8], table: &mut [u32])
 pub extern "C" fn vq_closed_reading(dialect: u32, bytes: &[u8], table: &mut [u32]) -> Answer
     ensures { λ r. ⌜ Reads dialect true (now (bytes .entry)) (now (table .entry)) r (now (table .exit)) ⌝ }
 {
-    capture::read_capture(dialect, bytes, table, true)
+    capture_read::read_capture(dialect, bytes, table, true)
 }

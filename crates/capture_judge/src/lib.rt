@@ -1,0 +1,96 @@
+// The dialects by their numbers, and the judgement at an offset (paper 01, "Judging a place").
+
+use capture::Asked;
+use capture::Dialect;
+use capture::Verdict;
+use form::Judgement;
+ghost use mathlib.Core.Path.{_≡_};
+ghost use Prim.Native.Nat.{_<_};
+ghost use lib.ListN.{drop};
+ghost use Rattle.capture.specs.Dialects.{dialectOf, dialectNumber, formOf, judgeOf, startOf};
+ghost use Rattle.form.specs.Numbers.{Judges};
+ghost use Rattle.capture.specs.Entries.{verdict, JudgesAt};
+
+// The most bytes that are read at once.
+pub const MAX_BYTES: usize = 1048576;
+
+// The refusals of this crate (paper 01, "Refusal numbers").
+pub const UNKNOWN_DIALECT: u32 = 1;
+
+pub const BEYOND_END: u32 = 2;
+
+pub const TOO_MANY_BYTES: u32 = 3;
+
+// The dialect that a number asks for.
+pub fn dialect_of(number: u32) -> Asked
+    ensures { λ r. ⌜ r ≡ dialectOf number ⌝ }
+{
+    match number {
+        0 => Asked::Known(Dialect::Sirad),
+        1 => Asked::Known(Dialect::Mmwave),
+        _ => Asked::Unknown,
+    }
+}
+
+// The number of a dialect.
+pub fn number_of(d: Dialect) -> u32
+    ensures { λ r. ⌜ r ≡ dialectNumber d ⌝ }
+{
+    match d {
+        Dialect::Sirad => 0,
+        Dialect::Mmwave => 1,
+    }
+}
+
+// The byte with which every frame of a dialect starts.
+pub fn start_byte(d: Dialect) -> u8
+    ensures { λ r. ⌜ r ≡ startOf d ⌝ }
+{
+    match d {
+        Dialect::Sirad => 33,
+        Dialect::Mmwave => 2,
+    }
+}
+
+fn judge_part(bytes: &[u8], d: Dialect) -> Judgement
+    ensures { λ r. ⌜ r ≡ judgeOf d (now (bytes .entry)) ⌝ }
+{
+    match d {
+        Dialect::Sirad => sirad::judge(bytes),
+        Dialect::Mmwave => mmwave::judge(bytes),
+    }
+}
+
+// The judgement of the bytes from an offset on; beyond the end there are none, and it waits.
+pub fn judge_from(bytes: &[u8], at: usize, d: Dialect) -> Judgement
+    ensures { λ r. ⌜ Judges (formOf d) 0 (drop at (now (bytes .entry))) r ⌝ }
+{
+    if bytes.len() < at {
+        return Judgement::Waiting;
+    }
+    judge_part(&bytes[at..], d)
+}
+
+fn judge_known(bytes: &[u8], at: usize, d: Dialect) -> Verdict
+    ensures { λ r. ⌜ r ≡ verdict (Asked.Known d) (now (bytes .entry)) at ⌝ }
+{
+    let size = bytes.len();
+    if MAX_BYTES < size {
+        return Verdict::Refused(TOO_MANY_BYTES);
+    }
+    if size < at {
+        return Verdict::Refused(BEYOND_END);
+    }
+    let j = judge_from(bytes, at, d);
+    Verdict::Judged(j)
+}
+
+// The judgement of the bytes from `offset` on: `judge_at(0, b"!E0000\r\n", 0)` is Judged(Whole(6, 8)), at 1 it is Judged(Bad(10)), at 8 Judged(Waiting), at 9 Refused(2).
+pub fn judge_at(dialect: u32, bytes: &[u8], offset: usize) -> Verdict
+    ensures { λ r. ⌜ JudgesAt dialect (now (bytes .entry)) offset r ⌝ }
+{
+    match dialect_of(dialect) {
+        Asked::Known(d) => judge_known(bytes, offset, d),
+        Asked::Unknown => Verdict::Refused(UNKNOWN_DIALECT),
+    }
+}
