@@ -57,7 +57,7 @@ use Rattle.capture.specs.declared.Verdict.{Verdict}
 use Rattle.capture.specs.declared.Verdict.the-variants.{Refused, Judged}
 use Rattle.capture.proofs.Laws.{unknown-refused, verdict-long, verdict-beyond, verdict-judged}
 use Rattle.capture.proofs.LineLaws.{unknown-part, main-long, standby-long, both-short}
-use Rattle.capture.proofs.Wires.{lawful-of, no-start}
+use Rattle.capture.proofs.Wires.{lawful-of, no-start, dialect-none}
 
 -- -- From the judgement to the entry
 
@@ -72,8 +72,10 @@ judged-exactly d bs at j l h = ((λ e. let q : Judged (judgeOf d (drop at bs)) �
 -- the frames that stand are those that are judged whole
 stands-alike : (d : Dialect) (bs : List ℕ) (from : ℕ) (ws : List Row) → Leftmost (StandsIn d bs) from ws ↔ Leftmost (StandsAt (judgeOf d) bs) from ws
 stands-alike d bs from ws = (
-  leftmost.leftmost-alike (StandsIn d bs) (StandsAt (judgeOf d) bs) (λ at k n s. forms.stands-judged (formOf d) k n (drop at bs) s) (λ at k n s. forms.judged-stands (formOf d) k n (drop at bs) s) from ws,
-  leftmost.leftmost-alike (StandsAt (judgeOf d) bs) (StandsIn d bs) (λ at k n s. forms.judged-stands (formOf d) k n (drop at bs) s) (λ at k n s. forms.stands-judged (formOf d) k n (drop at bs) s) from ws,
+  leftmost.leftmost-alike (StandsIn d bs) (StandsAt (judgeOf d) bs) (λ at k n s. forms.stands-judged (formOf d) k n (drop at bs) s)
+      (λ at k n s. forms.judged-stands (formOf d) k n (drop at bs) s) from ws,
+  leftmost.leftmost-alike (StandsAt (judgeOf d) bs) (StandsIn d bs) (λ at k n s. forms.judged-stands (formOf d) k n (drop at bs) s)
+      (λ at k n s. forms.stands-judged (formOf d) k n (drop at bs) s) from ws,
 )
 
 none-alike : (d : Dialect) (bs : List ℕ) → NoneStands (StandsIn d bs) ↔ NoneStands (StandsAt (judgeOf d) bs)
@@ -196,8 +198,7 @@ asked-is (suc zero) h = (Mmwave, refl)
 asked-is (suc (suc n)) h = absurd (omega arith)
 
 asked-none : (number : ℕ) → 2 ≤ number → dialectOf number ≡ Unknown
-unfolding dialectOf
-asked-none number h = rw (ne-eqb number 0 (omega arith), ne-eqb number 1 (omega arith))
+asked-none number h = sym (dialect-none number (λ e. omega arith) (λ e. omega arith))
 
 not-refused : (j : Judgement) → verdictNumbers (Judged j) .refusal ≡ 0
 not-refused (Whole k n) = refl
@@ -205,7 +206,10 @@ not-refused (Bad r) = refl
 not-refused Waiting = refl
 
 verdict-refuses : (d : Dialect) (bs : List ℕ) (at : ℕ) → (verdictNumbers (verdict (Known d) bs at) .refusal ≡ 0) ↔ ((length bs ≤ maxBytes) × (at ≤ length bs))
-verdict-refuses d bs at = (there (decLt maxBytes (length bs)) (decLt (length bs) at), (λ h. ap (λ (v : Verdict). verdictNumbers v .refusal) (judged-is d bs at (h .0) (h .1)) ∙ not-refused (judgeOf d (drop at bs))))
+verdict-refuses d bs at = (
+  there (decLt maxBytes (length bs)) (decLt (length bs) at),
+  λ h. ap (λ (v : Verdict). verdictNumbers v .refusal) (judged-is d bs at (h .0) (h .1)) ∙ not-refused (judgeOf d (drop at bs)),
+)
   where
     there : Dec (maxBytes < length bs) → Dec (length bs < at) → verdictNumbers (verdict (Known d) bs at) .refusal ≡ 0 → (length bs ≤ maxBytes) × (at ≤ length bs)
     there (yes l) m e = let z : _≡_ {A = ℕ} 3 0 = rw (← verdict-long d bs at l) at e in absurd (omega arith)
@@ -302,5 +306,7 @@ sirad-open-is-closed bs room = leftmost.open-is-closed (judgeOf Sirad) (lawful-o
 -- -- Values at the edges
 
 pub edges-hold : say.EdgesHold
-unfolding edges formOf toLittle fromLittle digit _>>=_ judge marker free frees typeOk lengthOk magic entry last records counted packet mmWave totalLegal countLegal perObject payloadRule payloadFits somePayloadFits sirad body number lay classes characters millimetres decibels centidegrees significand scale nearest
+unfolding edges formOf toLittle fromLittle digit _>>=_ judge marker free frees typeOk lengthOk magic entry last records counted
+    packet mmWave totalLegal countLegal perObject payloadRule payloadFits somePayloadFits sirad body number lay classes
+    characters millimetres decibels centidegrees significand scale nearest
 edges-hold = refl

@@ -133,7 +133,8 @@ inner Unknown main standby = omega arith
 inner (Known d) main standby =
     let e : Inner emptyPart main standby = omega arith in
     inner-cond (ltb maxBytes (length main)) emptyPart _ main standby e
-    (inner-cond (ltb maxBytes (length standby)) emptyPart _ main standby e (inner-chosen (judgeOf d) main standby (closedRows d main) (closedRows d standby) (closed-rows-stand d main) (closed-rows-stand d standby)))
+    (inner-cond (ltb maxBytes (length standby)) emptyPart _ main standby e
+    (inner-chosen (judgeOf d) main standby (closedRows d main) (closedRows d standby) (closed-rows-stand d main) (closed-rows-stand d standby)))
 
 -- -- The same of a part that is known to be the chosen one
 

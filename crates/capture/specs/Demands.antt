@@ -1,8 +1,8 @@
 -- The front door: what is proved of captures, in the words of the demands and of paper 01.
 -- Each definition below is a proposition under its words; its proof has the same name in small letters, in proofs/Demands.antt.
--- `judge_at` promises that its answer is `verdict`, the readings that theirs are `readAnswer` and leave `readLeaves` in the table, the choice of lines
--- that its part is `partOf` (and, `RefersTo`, that the reference is to that part): so what is said of these is said of the answers.
--- Lists hold any numbers; `Bytes` says that each is below 256 where a theorem needs it.
+-- `judge_at` promises that its answer is `verdict`, the readings that theirs are `readAnswer` and that they leave `readLeaves` in the
+-- table, the choice of lines that its part is `partOf` (and, `RefersTo`, that the reference is to that part): so what is said of these is
+-- said of the answers. Lists hold any numbers; `Bytes` says that each is below 256 where a theorem needs it.
 use mathlib.Core.Bool.{Bool, true, false}
 use mathlib.Core.Path.{_≡_}
 use mathlib.Core.List.{List, [], _∷_, _++_, map}
@@ -63,15 +63,20 @@ EndsInsideField Mmwave bs = EndsInField bs
 -- the judgement refuses nothing but a dialect other than 0 and 1, more than 1,048,576 bytes, and an offset beyond the length
 abbrev pub JudgementRefusesOnly : Type 0
 JudgementRefusesOnly =
-    (number : ℕ) (bs : List ℕ) (at : ℕ) → (verdictNumbers (verdict (dialectOf number) bs at) .refusal ≡ 0) ↔ ((number < 2) × (length bs ≤ maxBytes) × (at ≤ length bs))
+    (number : ℕ) (bs : List ℕ) (at : ℕ)
+    → (verdictNumbers (verdict (dialectOf number) bs at) .refusal ≡ 0) ↔ ((number < 2) × (length bs ≤ maxBytes) × (at ≤ length bs))
 
 -- a reading refuses nothing but a dialect other than 0 and 1 and more than 1,048,576 bytes
 abbrev pub ReadingRefusesOnly : Type 0
-ReadingRefusesOnly = (number : ℕ) (closed : Bool) (bs : List ℕ) (room : ℕ) → (readAnswer (dialectOf number) closed bs room .refusal ≡ 0) ↔ ((number < 2) × (length bs ≤ maxBytes))
+ReadingRefusesOnly =
+    (number : ℕ) (closed : Bool) (bs : List ℕ) (room : ℕ)
+    → (readAnswer (dialectOf number) closed bs room .refusal ≡ 0) ↔ ((number < 2) × (length bs ≤ maxBytes))
 
 -- a refusal changes no number of the table
 abbrev pub RefusalChangesNothing : Type 0
-RefusalChangesNothing = (asked : Asked) (closed : Bool) (bs table : List ℕ) → (readAnswer asked closed bs (roomIn table) .refusal ≡ 0 → ⊥) → readLeaves asked closed bs table ≡ table
+RefusalChangesNothing =
+    (asked : Asked) (closed : Bool) (bs table : List ℕ) → (readAnswer asked closed bs (roomIn table) .refusal ≡ 0 → ⊥)
+    → readLeaves asked closed bs table ≡ table
 
 -- -- Demand 2: it reads exactly what the documents define
 
@@ -86,7 +91,8 @@ MmwaveFrames = (kind : ℕ) (bs : List ℕ) → Frame (packet mmWave) kind bs �
 -- a place is judged whole exactly when a frame stands there, with that frame's kind and length
 abbrev pub WholeExactlyIfStands : Type 0
 WholeExactlyIfStands =
-    (d : Dialect) (bs : List ℕ) → length bs ≤ maxBytes → (at : ℕ) → at ≤ length bs → (kind size : ℕ) → (judgedAt d bs at ≡ Judged (Whole kind size)) ↔ StandsIn d bs at kind size
+    (d : Dialect) (bs : List ℕ) → length bs ≤ maxBytes → (at : ℕ) → at ≤ length bs → (kind size : ℕ)
+    → (judgedAt d bs at ≡ Judged (Whole kind size)) ↔ StandsIn d bs at kind size
 
 -- at most one frame stands at a place
 abbrev pub OneStands : Type 0
@@ -94,16 +100,21 @@ OneStands = (d : Dialect) (bs : List ℕ) (at k₁ n₁ k₂ n₂ : ℕ) → Sta
 
 -- every capture has one leftmost reading
 abbrev pub OneLeftmost : Type 0
-OneLeftmost = (d : Dialect) (bs : List ℕ) → (ws : List Row) × Leftmost (StandsIn d bs) 0 ws × ((vs : List Row) → Leftmost (StandsIn d bs) 0 vs → vs ≡ ws)
+OneLeftmost =
+    (d : Dialect) (bs : List ℕ)
+    → (ws : List Row) × Leftmost (StandsIn d bs) 0 ws × ((vs : List Row) → Leftmost (StandsIn d bs) 0 vs → vs ≡ ws)
 
 -- with room in its table, the closed reading gives every frame that the leftmost reading holds, and comes to the end
 abbrev pub ClosedIsLeftmost : Type 0
 ClosedIsLeftmost =
-    (d : Dialect) (bs : List ℕ) (room : ℕ) (ws : List Row) → Leftmost (StandsIn d bs) 0 ws → length ws ≤ room → (closedOf d room bs .rows ≡ ws) × (closedOf d room bs .state ≡ stateEnd)
+    (d : Dialect) (bs : List ℕ) (room : ℕ) (ws : List Row) → Leftmost (StandsIn d bs) 0 ws → length ws ≤ room
+    → (closedOf d room bs .rows ≡ ws) × (closedOf d room bs .state ≡ stateEnd)
 
 -- with any room, the closed reading says "none", no row with state 2, exactly if no frame stands anywhere
 abbrev pub NoneExactlyIfNoneStands : Type 0
-NoneExactlyIfNoneStands = (d : Dialect) (bs : List ℕ) (room : ℕ) → ((closedOf d room bs .rows ≡ []) × (closedOf d room bs .state ≡ stateEnd)) ↔ NoneStands (StandsIn d bs)
+NoneExactlyIfNoneStands =
+    (d : Dialect) (bs : List ℕ) (room : ℕ)
+    → ((closedOf d room bs .rows ≡ []) × (closedOf d room bs .state ≡ stateEnd)) ↔ NoneStands (StandsIn d bs)
 
 -- -- What an answer says (paper 01, "Two readings")
 
@@ -112,7 +123,8 @@ abbrev pub AnswersTheReading : Type 0
 AnswersTheReading =
     (d : Dialect) (closed : Bool) (bs table : List ℕ) → length bs ≤ maxBytes
     → (let r = reading (judgeOf d) closed (roomIn table) bs in
-    (readAnswer (Known d) closed bs (roomIn table) ≡ answered r) × (readLeaves (Known d) closed bs table ≡ flat (r .rows) ++ drop (rowWidth * length (r .rows)) table))
+    (readAnswer (Known d) closed bs (roomIn table) ≡ answered r)
+    × (readLeaves (Known d) closed bs table ≡ flat (r .rows) ++ drop (rowWidth * length (r .rows)) table))
 
 -- no more rows than there is room for
 abbrev pub RowsFit : Type 0
@@ -120,14 +132,19 @@ RowsFit = (d : Dialect) (closed : Bool) (bs : List ℕ) (room : ℕ) → length 
 
 -- row lengths plus skipped bytes equal the next place
 abbrev pub LengthsAndSkipsAreNext : Type 0
-LengthsAndSkipsAreNext = (d : Dialect) (closed : Bool) (bs : List ℕ) (room : ℕ) → (let r = reading (judgeOf d) closed room bs in lengths (r .rows) + r .skipped ≡ r .next)
+LengthsAndSkipsAreNext =
+    (d : Dialect) (closed : Bool) (bs : List ℕ) (room : ℕ)
+    → (let r = reading (judgeOf d) closed room bs in lengths (r .rows) + r .skipped ≡ r .next)
 
--- the skip count is the number of places that the reading comes to and judges bad and, in the closed reading, of those judged waiting before the end
+-- the skip count is the number of places that the reading comes to and judges bad and, in the closed reading, of those judged waiting
+-- before the end
 abbrev pub SkipsCounted : Type 0
-SkipsCounted = (d : Dialect) (closed : Bool) (bs : List ℕ) (room : ℕ) → Counted (SkippedAt (judgeOf d) closed bs 0 room) (reading (judgeOf d) closed room bs .skipped)
+SkipsCounted =
+    (d : Dialect) (closed : Bool) (bs : List ℕ) (room : ℕ)
+    → Counted (SkippedAt (judgeOf d) closed bs 0 room) (reading (judgeOf d) closed room bs .skipped)
 
--- the next place and the state are those at which the reading stops: open, at a waiting place with state 0; closed, at the end with state 2;
--- either, at a whole frame with no row left with state 1
+-- the next place and the state are those at which the reading stops: the open one at a waiting place with state 0, the closed one at
+-- the end with state 2, either at a whole frame with no row left with state 1
 abbrev pub StopsExactly : Type 0
 StopsExactly =
     (d : Dialect) (closed : Bool) (bs : List ℕ) (room at state : ℕ)
@@ -145,16 +162,20 @@ SiradOpenIsClosed = (bs : List ℕ) (room : ℕ) → openOf Sirad room bs .rows 
 
 -- the open reading of A followed by B begins with exactly the rows of A
 abbrev pub OpenBegins : Type 0
-OpenBegins = (d : Dialect) (A B : List ℕ) → length (A ++ B) ≤ maxBytes → (room : ℕ) → Begins (openOf d room A .rows) (openOf d room (A ++ B) .rows)
+OpenBegins =
+    (d : Dialect) (A B : List ℕ) → length (A ++ B) ≤ maxBytes → (room : ℕ)
+    → Begins (openOf d room A .rows) (openOf d room (A ++ B) .rows)
 
 -- if A's reading ended with a full table (state 1), the two answers are equal throughout, and so are the tables
 abbrev pub FullIsFinal : Type 0
 FullIsFinal =
-    (d : Dialect) (A B : List ℕ) → length (A ++ B) ≤ maxBytes → (table : List ℕ) → readAnswer (Known d) false A (roomIn table) .state ≡ stateFull
-    → (readAnswer (Known d) false A (roomIn table) ≡ readAnswer (Known d) false (A ++ B) (roomIn table)) × (readLeaves (Known d) false A table ≡ readLeaves (Known d) false (A ++ B) table)
+    (d : Dialect) (A B : List ℕ) → length (A ++ B) ≤ maxBytes → (table : List ℕ)
+    → readAnswer (Known d) false A (roomIn table) .state ≡ stateFull
+    → (readAnswer (Known d) false A (roomIn table) ≡ readAnswer (Known d) false (A ++ B) (roomIn table))
+    × (readLeaves (Known d) false A table ≡ readLeaves (Known d) false (A ++ B) table)
 
--- the reading goes on where it stopped: the open reading of A followed by B, with more rows, is that of A and then the open reading of all bytes
--- from A's next place on, its places shifted; whether A's reading stopped to wait or at a full table
+-- the reading goes on where it stopped: the open reading of A followed by B, with more rows, is that of A and then the open reading of
+-- all bytes from A's next place on, its places shifted; whether A's reading stopped to wait or at a full table
 abbrev pub OpenResumes : Type 0
 OpenResumes =
     (d : Dialect) (A B : List ℕ) → length (A ++ B) ≤ maxBytes → (room more : ℕ)
@@ -165,7 +186,8 @@ OpenResumes =
 abbrev pub ClosedResumes : Type 0
 ClosedResumes =
     (d : Dialect) (bs : List ℕ) (room more : ℕ)
-    → (let r = closedOf d room bs in closedOf d (length (r .rows) + more) bs ≡ joined r (shifted (r .next) (closedOf d more (drop (r .next) bs))))
+    → (let r = closedOf d room bs in
+    closedOf d (length (r .rows) + more) bs ≡ joined r (shifted (r .next) (closedOf d more (drop (r .next) bs))))
 
 -- each place that is judged whole or bad in A is judged alike in A followed by B, with the same kind and length or the same reason
 abbrev pub JudgedAlike : Type 0
@@ -174,14 +196,18 @@ JudgedAlike =
     → ((kind size : ℕ) → judgedAt d A at ≡ Judged (Whole kind size) → judgedAt d (A ++ B) at ≡ Judged (Whole kind size))
     × ((reason : ℕ) → judgedAt d A at ≡ Judged (Bad reason) → judgedAt d (A ++ B) at ≡ Judged (Bad reason))
 
--- at every place of A, the end included, the reader waits exactly when no frame stands there yet and some further bytes would complete one; for mmWave, at each place from which A doesn't end inside a four-byte field
+-- at every place of A, the end included, the reader waits exactly when no frame stands there yet and some further bytes would complete
+-- one; for mmWave, at each place from which A doesn't end inside a four-byte field
 abbrev pub WaitsExactly : Type 0
 WaitsExactly =
-    (d : Dialect) (A : List ℕ) → Bytes A → length A ≤ maxBytes → (at : ℕ) → at ≤ length A → (EndsInsideField d (drop at A) → ⊥) → (judgedAt d A at ≡ Judged Waiting) ↔ Completable (formOf d) (drop at A)
+    (d : Dialect) (A : List ℕ) → Bytes A → length A ≤ maxBytes → (at : ℕ) → at ≤ length A → (EndsInsideField d (drop at A) → ⊥)
+    → (judgedAt d A at ≡ Judged Waiting) ↔ Completable (formOf d) (drop at A)
 
 -- where A ends inside a four-byte field the judgement is waiting
 abbrev pub InsideWaits : Type 0
-InsideWaits = (d : Dialect) (A : List ℕ) → length A ≤ maxBytes → (at : ℕ) → at ≤ length A → EndsInsideField d (drop at A) → judgedAt d A at ≡ Judged Waiting
+InsideWaits =
+    (d : Dialect) (A : List ℕ) → length A ≤ maxBytes → (at : ℕ) → at ≤ length A → EndsInsideField d (drop at A)
+    → judgedAt d A at ≡ Judged Waiting
 
 -- the place at the very end is waiting
 abbrev pub EndWaits : Type 0
@@ -192,7 +218,8 @@ EndWaits = (d : Dialect) (A : List ℕ) → length A ≤ maxBytes → judgedAt d
 -- the first frame of the main line's leftmost reading; where it has none, that of the standby line; else an empty part of the main line
 pub record ChoosesFirst (d : Dialect) (main standby : List ℕ) : Type 0 where
   pub from-main : (w : Row) (ws : List Row) → Leftmost (StandsIn d main) 0 (w ∷ ws) → partOf (Known d) main standby ≡ rowPart false w
-  pub from-standby : (w : Row) (ws : List Row) → NoneStands (StandsIn d main) → Leftmost (StandsIn d standby) 0 (w ∷ ws) → partOf (Known d) main standby ≡ rowPart true w
+  pub from-standby : (w : Row) (ws : List Row) → NoneStands (StandsIn d main) → Leftmost (StandsIn d standby) 0 (w ∷ ws)
+      → partOf (Known d) main standby ≡ rowPart true w
   pub from-neither : NoneStands (StandsIn d main) → NoneStands (StandsIn d standby) → partOf (Known d) main standby ≡ emptyPart
 
 -- that of two lines within the size limit
@@ -203,7 +230,8 @@ TwoLines = (d : Dialect) (main standby : List ℕ) → length main ≤ maxBytes 
 abbrev pub RefusedLineIsEmpty : Type 0
 RefusedLineIsEmpty =
     (number : ℕ) (main standby : List ℕ) (closed : Bool) (room : ℕ)
-    → ((readAnswer (dialectOf number) closed main room .refusal ≡ 0) × (readAnswer (dialectOf number) closed standby room .refusal ≡ 0) → ⊥) → partOf (dialectOf number) main standby ≡ emptyPart
+    → ((readAnswer (dialectOf number) closed main room .refusal ≡ 0) × (readAnswer (dialectOf number) closed standby room .refusal ≡ 0)
+    → ⊥) → partOf (dialectOf number) main standby ≡ emptyPart
 
 -- -- Values at the edges (paper 01)
 

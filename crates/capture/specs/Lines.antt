@@ -42,7 +42,8 @@ chosen [] [] = emptyPart
 unfoldable pub partOf : Asked → List ℕ → List ℕ → Part
 partOf Unknown main standby = emptyPart
 partOf (Known d) main standby =
-    cond (ltb maxBytes (length main)) emptyPart (cond (ltb maxBytes (length standby)) emptyPart (chosen (closedRows d main) (closedRows d standby)))
+    cond (ltb maxBytes (length main)) emptyPart
+    (cond (ltb maxBytes (length standby)) emptyPart (chosen (closedRows d main) (closedRows d standby)))
 
 -- the line that a part is of
 abbrev pub lineOf : {A : Type 0} → Part → A → A → A

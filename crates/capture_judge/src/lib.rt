@@ -85,7 +85,8 @@ fn judge_known(bytes: &[u8], at: usize, d: Dialect) -> Verdict
     Verdict::Judged(j)
 }
 
-// The judgement of the bytes from `offset` on: `judge_at(0, b"!E0000\r\n", 0)` is Judged(Whole(6, 8)), at 1 it is Judged(Bad(10)), at 8 Judged(Waiting), at 9 Refused(2).
+// The judgement of the bytes from `offset` on: `judge_at(0, b"!E0000\r\n", 0)` is Judged(Whole(6, 8)), at 1 it is Judged(Bad(10)), at 8
+// Judged(Waiting), at 9 Refused(2).
 pub fn judge_at(dialect: u32, bytes: &[u8], offset: usize) -> Verdict
     ensures { λ r. ⌜ JudgesAt dialect (now (bytes .entry)) offset r ⌝ }
 {

@@ -86,7 +86,8 @@ pub fn choose_part(dialect: u32, main: &[u8], standby: &[u8]) -> Part
     }
 }
 
-// The standby line where it is asked for, else the main line: the result is lent for as long as the main line is, and so is the standby line.
+// The standby line where it is asked for, else the main line: the result is lent for as long as the main line is, and so is the standby
+// line.
 fn line_of<'a, 'b: 'a>(main: &'a [u8], standby: &'b [u8], back: bool) -> &'a [u8]
     ensures { λ r. ⌜ r ≡ cond back (standby .entry) (main .entry) ⌝ }
 {

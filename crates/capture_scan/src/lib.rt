@@ -54,7 +54,8 @@ fn few(bytes: &[u8], from: usize, n: usize, mark: u8) -> usize
     at
 }
 
-// An offset up to which the mark does not occur: the next mark, where there is one nearby. Marks close to each other are met byte by byte, others 32 bytes at a time.
+// An offset up to which the mark does not occur: the next mark, where there is one nearby. Marks close to each other are met byte by byte,
+// others 32 bytes at a time.
 pub fn find(bytes: &[u8], from: usize, mark: u8) -> usize
     ensures { λ r. ⌜ Found mark from (now (bytes .entry)) r ⌝ }
 {

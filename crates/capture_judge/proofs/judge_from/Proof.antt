@@ -24,7 +24,10 @@ returns : tie.Need-returns
 returns c = let a = c .before .before .args in judges-beyond (a .d) (a .bytes .now) (a .at) (c .if1 .taken)
 
 returns-2 : tie.Need-returns-2
-returns-2 c = let a = c .before .before .before .before .args in judges (c .judge-part .ensures ∙ ap (judgeOf (a .d)) (part-drop (a .bytes .now) (a .at)))
+returns-2 c =
+    let at-args = c .before .before .before .before in
+    let a = at-args .args in
+    judges (c .judge-part .ensures ∙ ap (judgeOf (a .d)) (part-drop (a .bytes .now) (a .at)))
 
 pub judge-from-spec : {M : Type 1} → statement M
 judge-from-spec =

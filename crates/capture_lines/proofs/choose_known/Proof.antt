@@ -18,8 +18,11 @@ row-part-requires : tie.Need-row-part-requires
 row-part-requires c κs = search needs
 
 returns-3 : tie.Need-returns-3
-returns-3 c = c .row-part .ensures
-    ∙ main-first _ _ _ _ (c .before .before .before .before .before .if1 .left) (c .before .before .before .before .if2 .left) (c .before .before .before .first-frame .ensures) (c .before .if3 .taken)
+returns-3 c =
+    let at-if3 = c .before in let at-first-frame = at-if3 .before .before in let at-if2 = at-first-frame .before in
+    let at-if1 = at-if2 .before in
+    c .row-part .ensures ∙ main-first _ _ _ _ (at-if1 .if1 .left) (at-if2 .if2 .left) (at-first-frame .first-frame .ensures)
+    (at-if3 .if3 .taken)
 
 first-frame-requires-2 : tie.Need-first-frame-requires-2
 first-frame-requires-2 c κs = search needs
@@ -28,11 +31,18 @@ row-part-requires-2 : tie.Need-row-part-requires-2
 row-part-requires-2 c κs = search needs
 
 returns-4 : tie.Need-returns-4
-returns-4 c = c .row-part2 .ensures
-    ∙ standby-first _ _ _ _ _ (c .before .before .before .before .before .before .before .before .if1 .left) (c .before .before .before .before .before .before .before .if2 .left) (c .before .before .before .before .before .before .first-frame .ensures) (c .before .before .before .before .if3 .left) (c .before .before .before .first-frame2 .ensures) (c .before .if4 .taken)
+returns-4 c =
+    let at-if4 = c .before in let at-first-frame2 = at-if4 .before .before in let at-if3 = at-first-frame2 .before in
+    let at-first-frame = at-if3 .before .before in let at-if2 = at-first-frame .before in let at-if1 = at-if2 .before in
+    c .row-part2 .ensures ∙ standby-first _ _ _ _ _ (at-if1 .if1 .left) (at-if2 .if2 .left) (at-first-frame .first-frame .ensures)
+    (at-if3 .if3 .left) (at-first-frame2 .first-frame2 .ensures) (at-if4 .if4 .taken)
 
 returns-5 : tie.Need-returns-5
-returns-5 c = neither-first _ _ _ _ _ (c .before .before .before .before .before .before .before .if1 .left) (c .before .before .before .before .before .before .if2 .left) (c .before .before .before .before .before .first-frame .ensures) (c .before .before .before .if3 .left) (c .before .before .first-frame2 .ensures) (c .if4 .left)
+returns-5 c =
+    let at-first-frame2 = c .before .before in let at-if3 = at-first-frame2 .before in let at-first-frame = at-if3 .before .before in
+    let at-if2 = at-first-frame .before in let at-if1 = at-if2 .before in
+    neither-first _ _ _ _ _ (at-if1 .if1 .left) (at-if2 .if2 .left) (at-first-frame .first-frame .ensures) (at-if3 .if3 .left)
+    (at-first-frame2 .first-frame2 .ensures) (c .if4 .left)
 
 pub choose-known-spec : {M : Type 1} → statement M
 choose-known-spec =

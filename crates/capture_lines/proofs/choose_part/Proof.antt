@@ -18,7 +18,9 @@ enum-told : tie.Need-enum-told
 enum-told c = search needs
 
 returns : tie.Need-returns
-returns c = part-asked _ _ _ _ _ (sym (c .before .before .d .given .1) ∙ (c .before .before .before .before .dialect-of .ensures)) (c .choose-known .ensures)
+returns c =
+    let at-d = c .before .before in let at-dialect-of = at-d .before .before in
+    part-asked _ _ _ _ _ (sym (at-d .d .given .1) ∙ (at-dialect-of .dialect-of .ensures)) (c .choose-known .ensures)
 
 returns-2 : tie.Need-returns-2
 returns-2 c = part-asked _ _ _ _ _ (sym (c .enum-told .given .1) ∙ (c .before .before .dialect-of .ensures)) (unknown-part _ _)

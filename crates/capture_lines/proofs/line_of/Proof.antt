@@ -52,78 +52,100 @@ is-main : (t : Bool) (xs ys : RefT (List ℕ)) → Holds (not t) → xs ≡ cond
 is-main true xs ys h = absurd h
 is-main false xs ys h = refl
 
-module _ {M : Type 1} (𝓤 : URA M) (H : Heap 𝓤) (A : Atoms 𝓤) (W : Given 𝓤 H A) (mem : Memory → SProp 𝓤) (run : Routine → Fun 𝓤) (κ κ′ : Lft) (q q′ : Share) (b : AllOutlive 2 (line-of.signature .outlives) (κ, (κ′, tt))) (x y : RefT (List ℕ)) (t : Bool) where
-  abbrev κs : Lfts 2
-  κs = (κ, (κ′, tt))
+module _ {M : Type 1} (𝓤 : URA M) (H : Heap 𝓤) (A : Atoms 𝓤) (W : Given 𝓤 H A) (mem : Memory → SProp 𝓤) (run : Routine → Fun 𝓤) (κ κ′ : Lft)
+    (q q′ : Share) (b : AllOutlive 2 (line-of.signature .outlives) (κ, (κ′, tt))) (x y : RefT (List ℕ)) (t : Bool)
+  where
+    abbrev κs : Lfts 2
+    κs = (κ, (κ′, tt))
 
-  -- the machine values of the two slices
-  abbrev vx : Val
-  vx = sliceVal (x .ptr) (length (x .now))
+    -- the machine values of the two slices
+    abbrev vx : Val
+    vx = sliceVal (x .ptr) (length (x .now))
 
-  abbrev vy : Val
-  vy = sliceVal (y .ptr) (length (y .now))
+    abbrev vy : Val
+    vy = sliceVal (y .ptr) (length (y .now))
 
-  abbrev at : Vals line-of.signature κs
-  at = (vx ∷ [], (vy ∷ [], (vbool t ∷ [], tt)))
+    abbrev at : Vals line-of.signature κs
+    at = (vx ∷ [], (vy ∷ [], (vbool t ∷ [], tt)))
 
-  abbrev Post : Val → SProp 𝓤
-  Post = walkOf 𝓤 H A line-of.ended stayed (line-of.clauses 𝓤 H A mem run) .post ((κs, (q, (q′, tt)), b, (x, (y, (t, tt))), at), tt)
+    abbrev Post : Val → SProp 𝓤
+    Post = walkOf 𝓤 H A line-of.ended stayed (line-of.clauses 𝓤 H A mem run) .post ((κs, (q, (q′, tt)), b, (x, (y, (t, tt))), at), tt)
 
-  -- what each owns, and the second at the first's lifetime
-  abbrev Main : Fml
-  Main = ShrSlice (named 0) κ u8 .own x (vx ∷ [])
+    -- what each owns, and the second at the first's lifetime
+    abbrev Main : Fml
+    Main = ShrSlice (named 0) κ u8 .own x (vx ∷ [])
 
-  abbrev Standby : Fml
-  Standby = ShrSlice (named 1) κ′ u8 .own y (vy ∷ [])
+    abbrev Standby : Fml
+    Standby = ShrSlice (named 1) κ′ u8 .own y (vy ∷ [])
 
-  abbrev Short : Fml
-  Short = ShrSlice (named 0) κ u8 .own y (vy ∷ [])
+    abbrev Short : Fml
+    Short = ShrSlice (named 0) κ u8 .own y (vy ∷ [])
 
-  shortens : ent 𝓤 (sem 𝓤 H A Standby) (sem 𝓤 H A Short)
-  shortens = qed W (‵ Standby ∷ []) ∵ fsplit3 ! $ move ! (2 ∷ []) $ shr-bor-shorten ! κ (b .0) $ move ! (1 ∷ 2 ∷ 0 ∷ []) $ fjoin3 ! $ done !
+    shortens : ent 𝓤 (sem 𝓤 H A Standby) (sem 𝓤 H A Short)
+    shortens = qed W (‵ Standby ∷ []) ∵ fsplit3 ! $ move ! (2 ∷ []) $ shr-bor-shorten ! κ (b .0) $ move ! (1 ∷ 2 ∷ 0 ∷ []) $ fjoin3 ! $ done !
 
-  exits-standby : Holds t → ent 𝓤 (onEntry 𝓤 H A line-of.signature κs (q, (q′, tt)) (x, (y, (t, tt))) at) (Post vy)
-  exits-standby h =
-      qed W ((‵ (flft κ q) ⊛ ‵ (flft κ′ q′) ⊛ ‵ ftrue) ∷ ‵ (owns (ShrSlice (named 0) κ u8 ∷ ShrSlice (named 1) κ′ u8 ∷ bool ∷ []) (x, (y, (t, tt))) at) ∷ []) ∵
-      suffices ! _ (ends-at 𝓤 H A line-of.ended stayed (line-of.clauses 𝓤 H A mem run) W ((κs, (q, (q′, tt)), b, (x, (y, (t, tt))), at), tt) vy y (tt, (tt, (tt, tt))) (tt, (tt, (tt, tt)))) $ says ! (is-standby t x y h) $
-      frame ! $ fsplit3 ! $ move ! (1 ∷ []) $ use1 W (‵ Standby ⊛ ‵ Standby) (shr-slice-copy 𝓤 H A W (named 1) κ′ u8 .twice y (vy ∷ [])) $ split ! $
-      move ! (2 ∷ 0 ∷ 3 ∷ []) $ fjoin3 ! $ frame ! $ use1 W (‵ Short) shortens $ done !
+    exits-standby : Holds t → ent 𝓤 (onEntry 𝓤 H A line-of.signature κs (q, (q′, tt)) (x, (y, (t, tt))) at) (Post vy)
+    exits-standby h =
+        qed W ((‵ (flft κ q) ⊛ ‵ (flft κ′ q′) ⊛ ‵ ftrue) ∷ ‵ (owns (ShrSlice (named 0) κ u8 ∷ ShrSlice (named 1) κ′ u8 ∷ bool ∷ []) (x, (y, (t, tt))) at) ∷ []) ∵
+        suffices ! _
+        (ends-at 𝓤 H A line-of.ended stayed (line-of.clauses 𝓤 H A mem run) W ((κs, (q, (q′, tt)), b, (x, (y, (t, tt))), at), tt) vy y
+        (tt, (tt, (tt, tt))) (tt, (tt, (tt, tt)))) $ says ! (is-standby t x y h) $
+        frame ! $ fsplit3 ! $ move ! (1 ∷ []) $ use1 W (‵ Standby ⊛ ‵ Standby) (shr-slice-copy 𝓤 H A W (named 1) κ′ u8 .twice y (vy ∷ [])) $ split ! $
+        move ! (2 ∷ 0 ∷ 3 ∷ []) $ fjoin3 ! $ frame ! $ use1 W (‵ Short) shortens $ done !
 
-  exits-main : Holds (not t) → ent 𝓤 (onEntry 𝓤 H A line-of.signature κs (q, (q′, tt)) (x, (y, (t, tt))) at) (Post vx)
-  exits-main h =
-      qed W ((‵ (flft κ q) ⊛ ‵ (flft κ′ q′) ⊛ ‵ ftrue) ∷ ‵ (owns (ShrSlice (named 0) κ u8 ∷ ShrSlice (named 1) κ′ u8 ∷ bool ∷ []) (x, (y, (t, tt))) at) ∷ []) ∵
-      suffices ! _ (ends-at 𝓤 H A line-of.ended stayed (line-of.clauses 𝓤 H A mem run) W ((κs, (q, (q′, tt)), b, (x, (y, (t, tt))), at), tt) vx x (tt, (tt, (tt, tt))) (tt, (tt, (tt, tt)))) $ says ! (is-main t x y h) $
-      frame ! $ fsplit ! $ use1 W (‵ Main ⊛ ‵ Main) (shr-slice-copy 𝓤 H A W (named 0) κ u8 .twice x (vx ∷ [])) $ split ! $
-      move ! (0 ∷ 2 ∷ []) $ fjoin ! $ frame ! $ done !
+    exits-main : Holds (not t) → ent 𝓤 (onEntry 𝓤 H A line-of.signature κs (q, (q′, tt)) (x, (y, (t, tt))) at) (Post vx)
+    exits-main h =
+        qed W ((‵ (flft κ q) ⊛ ‵ (flft κ′ q′) ⊛ ‵ ftrue) ∷ ‵ (owns (ShrSlice (named 0) κ u8 ∷ ShrSlice (named 1) κ′ u8 ∷ bool ∷ []) (x, (y, (t, tt))) at) ∷ []) ∵
+        suffices ! _
+        (ends-at 𝓤 H A line-of.ended stayed (line-of.clauses 𝓤 H A mem run) W ((κs, (q, (q′, tt)), b, (x, (y, (t, tt))), at), tt) vx x
+        (tt, (tt, (tt, tt))) (tt, (tt, (tt, tt)))) $ says ! (is-main t x y h) $
+        frame ! $ fsplit ! $ use1 W (‵ Main ⊛ ‵ Main) (shr-slice-copy 𝓤 H A W (named 0) κ u8 .twice x (vx ∷ [])) $ split ! $
+        move ! (0 ∷ 2 ∷ []) $ fjoin ! $ frame ! $ done !
 
-  -- the locals, with where they stand
-  abbrev En : (l₀ l₁ l₂ l₃ l₄ : ℕ) → Env 𝓤 H
-  En l₀ l₁ l₂ l₃ l₄ = (sliceTy (tyRef (named 0) imm (tyInt w8)), l₀) ∷ (sliceTy (tyRef (named 0) imm (tyInt w8)), l₁) ∷ (sliceTy (tyRef (named 1) imm (tyInt w8)), l₂) ∷ (tyBool, l₃) ∷ (tyBool, l₄) ∷ []
+    -- the locals, with where they stand
+    abbrev En : (l₀ l₁ l₂ l₃ l₄ : ℕ) → Env 𝓤 H
+    En l₀ l₁ l₂ l₃ l₄ =
+        (sliceTy (tyRef (named 0) imm (tyInt w8)), l₀) ∷ (sliceTy (tyRef (named 0) imm (tyInt w8)), l₁)
+        ∷ (sliceTy (tyRef (named 1) imm (tyInt w8)), l₂) ∷ (tyBool, l₃) ∷ (tyBool, l₄) ∷ []
 
-  module _ (C : Calls 𝓤 H) (Λ : Loops 𝓤 H) where
-    walk : Is (ShrSlice (named 0) κ u8) x (vx ∷ []) → Is (ShrSlice (named 1) κ′ u8) y (vy ∷ []) → ent 𝓤 (onEntry 𝓤 H A line-of.signature κs (q, (q′, tt)) (x, (y, (t, tt))) at) (WpFn 𝓤 H C Λ code.function (vx ∷ vy ∷ vbool t ∷ []) Post)
-    walk px py =
-        qed W ((‵ (flft κ q) ⊛ ‵ (flft κ′ q′) ⊛ ‵ ftrue) ∷ ‵ (owns (ShrSlice (named 0) κ u8 ∷ ShrSlice (named 1) κ′ u8 ∷ bool ∷ []) (x, (y, (t, tt))) at) ∷ []) ∵ enter ! C Λ code.function (vx ∷ vy ∷ vbool t ∷ []) _ $
-        alloc1 ! (λ l₀. alloc1 ! (λ l₁. alloc1 ! (λ l₂. alloc1 ! (λ l₃. alloc1 ! (λ l₄. alloc0 ! $ params1 ! $
-        pass1 ! (init ! 6 refl (shr-slice-lawful 𝓤 H A W (named 0) κ u8 .typed x (vx ∷ []) px .0)) $ pass1 ! (init ! 4 refl (shr-slice-lawful 𝓤 H A W (named 1) κ′ u8 .typed y (vy ∷ []) py .0)) $ pass1 ! (init ! 2 refl (tt, tt)) $ pass0 ! $
-        assigns ! (of-opd ! (load ! (from ! (stop !)) (look ! 2 refl))) (from ! (stop !)) (init ! 0 refl (tt, tt)) $
-        first ! $ branches ! (load ! (from ! (stop !)) (look ! 0 refl))
-        (λ h. assigns ! (of-opd ! (load ! (from ! (stop !)) (look ! 4 refl))) (from ! (stop !)) (init ! 8 refl (shr-slice-lawful 𝓤 H A W (named 0) κ u8 .typed y (vy ∷ []) py .0)) $
-        returns-within ! Post refl (look ! 8 refl) $ forget ! 0 refl $ forget ! 2 refl $ forget ! 4 refl $ forget ! 6 refl $ forget ! 8 refl $
-        move ! (8 ∷ 9 ∷ []) $ free1 ! $ move ! (6 ∷ 7 ∷ []) $ free1 ! $ move ! (4 ∷ 5 ∷ []) $ free1 ! $ move ! (2 ∷ 3 ∷ []) $ free1 ! $ free1 ! $ free0 ! $ by ! (exits-standby h))
-        (λ h. skips ! $ exec ! C Λ (En l₀ l₁ l₂ l₃ l₄) t-3 (atRet (En l₀ l₁ l₂ l₃ l₄) Post) $
-        assigns ! (of-opd ! (load ! (from ! (stop !)) (look ! 6 refl))) (from ! (stop !)) (init ! 8 refl (shr-slice-lawful 𝓤 H A W (named 0) κ u8 .typed x (vx ∷ []) px .0)) $
-        returns ! (look ! 8 refl) $ forget ! 0 refl $ forget ! 2 refl $ forget ! 4 refl $ forget ! 6 refl $ forget ! 8 refl $
-        move ! (8 ∷ 9 ∷ []) $ free1 ! $ move ! (6 ∷ 7 ∷ []) $ free1 ! $ move ! (4 ∷ 5 ∷ []) $ free1 ! $ move ! (2 ∷ 3 ∷ []) $ free1 ! $ free1 ! $ free0 ! $ by ! (exits-main h)))))))
+    module _ (C : Calls 𝓤 H) (Λ : Loops 𝓤 H) where
+      walk : Is (ShrSlice (named 0) κ u8) x (vx ∷ []) → Is (ShrSlice (named 1) κ′ u8) y (vy ∷ [])
+          → ent 𝓤 (onEntry 𝓤 H A line-of.signature κs (q, (q′, tt)) (x, (y, (t, tt))) at)
+          (WpFn 𝓤 H C Λ code.function (vx ∷ vy ∷ vbool t ∷ []) Post)
+      walk px py =
+          qed W
+          ((‵ (flft κ q) ⊛ ‵ (flft κ′ q′) ⊛ ‵ ftrue)
+          ∷ ‵ (owns (ShrSlice (named 0) κ u8 ∷ ShrSlice (named 1) κ′ u8 ∷ bool ∷ []) (x, (y, (t, tt))) at) ∷ []) ∵
+          enter ! C Λ code.function (vx ∷ vy ∷ vbool t ∷ []) _ $
+          alloc1 ! (λ l₀. alloc1 ! (λ l₁. alloc1 ! (λ l₂. alloc1 ! (λ l₃. alloc1 ! (λ l₄. alloc0 ! $ params1 ! $
+          pass1 ! (init ! 6 refl (shr-slice-lawful 𝓤 H A W (named 0) κ u8 .typed x (vx ∷ []) px .0)) $
+          pass1 ! (init ! 4 refl (shr-slice-lawful 𝓤 H A W (named 1) κ′ u8 .typed y (vy ∷ []) py .0)) $
+          pass1 ! (init ! 2 refl (tt, tt)) $ pass0 ! $
+          assigns ! (of-opd ! (load ! (from ! (stop !)) (look ! 2 refl))) (from ! (stop !)) (init ! 0 refl (tt, tt)) $
+          first ! $ branches ! (load ! (from ! (stop !)) (look ! 0 refl))
+          (λ h. assigns ! (of-opd ! (load ! (from ! (stop !)) (look ! 4 refl))) (from ! (stop !)) (init ! 8 refl (shr-slice-lawful 𝓤 H A W (named 0) κ u8 .typed y (vy ∷ []) py .0)) $
+          returns-within ! Post refl (look ! 8 refl) $ forget ! 0 refl $ forget ! 2 refl $ forget ! 4 refl $ forget ! 6 refl $ forget ! 8 refl $
+          move ! (8 ∷ 9 ∷ []) $ free1 ! $ move ! (6 ∷ 7 ∷ []) $ free1 ! $ move ! (4 ∷ 5 ∷ []) $ free1 ! $ move ! (2 ∷ 3 ∷ []) $ free1 ! $ free1 ! $ free0 ! $ by ! (exits-standby h))
+          (λ h. skips ! $ exec ! C Λ (En l₀ l₁ l₂ l₃ l₄) t-3 (atRet (En l₀ l₁ l₂ l₃ l₄) Post) $
+          assigns ! (of-opd ! (load ! (from ! (stop !)) (look ! 6 refl))) (from ! (stop !)) (init ! 8 refl (shr-slice-lawful 𝓤 H A W (named 0) κ u8 .typed x (vx ∷ []) px .0)) $
+          returns ! (look ! 8 refl) $ forget ! 0 refl $ forget ! 2 refl $ forget ! 4 refl $ forget ! 6 refl $ forget ! 8 refl $
+          move ! (8 ∷ 9 ∷ []) $ free1 ! $ move ! (6 ∷ 7 ∷ []) $ free1 ! $ move ! (4 ∷ 5 ∷ []) $ free1 ! $ move ! (2 ∷ 3 ∷ []) $ free1 ! $ free1 ! $ free0 ! $ by ! (exits-main h)))))))
 
 module _ {M : Type 1} (𝓤 : URA M) (H : Heap 𝓤) (A : Atoms 𝓤) (W : Given 𝓤 H A) (mem : Memory → SProp 𝓤) (run : Routine → Fun 𝓤) where
   line-of-walks : (C : Calls 𝓤 H) (Λ : Loops 𝓤 H) → Walks 𝓤 H A line-of.ended stayed (WpFn 𝓤 H C Λ code.function) (line-of.clauses 𝓤 H A mem run)
-  line-of-walks C Λ = walked 𝓤 H A line-of.ended stayed (line-of.clauses 𝓤 H A mem run) (WpFn 𝓤 H C Λ code.function) (λ κs. (slice-vals, (slice-vals, (bool-vals, tt)))) (λ κs. (shr-slice-tells (named 0) (κs .0) u8, (shr-slice-tells (named 1) (κs .1 .0) u8, (bool-tells, tt))))
+  line-of-walks C Λ = walked 𝓤 H A line-of.ended stayed (line-of.clauses 𝓤 H A mem run) (WpFn 𝓤 H C Λ code.function)
+      (λ κs. (slice-vals, (slice-vals, (bool-vals, tt))))
+      (λ κs. (shr-slice-tells (named 0) (κs .0) u8, (shr-slice-tells (named 1) (κs .1 .0) u8, (bool-tells, tt))))
       (λ κs qs bounds a g are. via 𝓤 _ (fst∗ 𝓤 _ (emp 𝓤)) (walk 𝓤 H A W mem run (κs .0) (κs .1 .0) (qs .0) (qs .1 .0) bounds (a .0) (a .1 .0) (a .1 .1 .0) C Λ (are .0) (are .1 .0)))
 
 line-of-meets : {M : Type 1} (𝓤 : URA M) (H : Heap 𝓤) (A : Atoms 𝓤) → Given 𝓤 H A → (mem : Memory → SProp 𝓤) (run : Routine → Fun 𝓤) (𝓣 : Tables 𝓤 H)
     → Meets 𝓤 H A line-of.signature (WpFn 𝓤 H (𝓣 .C) (𝓣 .Λ) code.function) (line-of.spec 𝓤 H A mem run)
-line-of-meets 𝓤 H A W mem run 𝓣 = walk-meets 𝓤 H A line-of.ended stayed W (goes-none-slice 𝓤 H A W 2 (0 ∷ []) tt (plain (λ _. u8)) yes, (goes-none-slice 𝓤 H A W 2 (1 ∷ []) tt (plain (λ _. u8)) yes, (goes-none 𝓤 H A W 2 (λ _. bool) yes (λ κs x f. refl), tt))) (line-of.clauses 𝓤 H A mem run) (WpFn 𝓤 H (𝓣 .C) (𝓣 .Λ) code.function) (WpFn-mono 𝓤 H (W .laws) 𝓣 code.function) (line-of-walks 𝓤 H A W mem run (𝓣 .C) (𝓣 .Λ))
+line-of-meets 𝓤 H A W mem run 𝓣 =
+    walk-meets 𝓤 H A line-of.ended stayed W (
+      goes-none-slice 𝓤 H A W 2 (0 ∷ []) tt (plain (λ _. u8)) yes,
+      (goes-none-slice 𝓤 H A W 2 (1 ∷ []) tt (plain (λ _. u8)) yes, (goes-none 𝓤 H A W 2 (λ _. bool) yes (λ κs x f. refl), tt)),
+    )
+    (line-of.clauses 𝓤 H A mem run) (WpFn 𝓤 H (𝓣 .C) (𝓣 .Λ) code.function) (WpFn-mono 𝓤 H (W .laws) 𝓣 code.function) (line-of-walks 𝓤 H A W mem run (𝓣 .C) (𝓣 .Λ))
 
 pub line-of-spec : {M : Type 1} → stated.statement M
 unfolding code.routine tablesOf

@@ -42,7 +42,9 @@ loop-less : tie.Need-loop-less Inv-loop μ-loop
 loop-less c = search needs
 
 loop-again : tie.Need-loop-again Inv-loop μ-loop
-loop-again c = (omega arith, omega arith, clear-join _ _ _ _ _ (c .before .before .before .loop .inv .2) (c .before .misses .ensures (c .if3 .taken)))
+loop-again c =
+    let at-misses = c .before in let at-loop = at-misses .before .before in
+    (omega arith, omega arith, clear-join _ _ _ _ _ (at-loop .loop .inv .2) (at-misses .misses .ensures (c .if3 .taken)))
 
 few-requires-2 : tie.Need-few-requires-2 Inv-loop μ-loop
 few-requires-2 c κs = search needs
