@@ -110,11 +110,11 @@ fn add(t: Tally, j: Judgement) -> Tally {
     let class = class_of(j);
     Tally {
         whole: counted(t.whole, class, 1),
-        magic: counted(t.magic, class, mmwave::NO_MAGIC),
-        total: counted(t.total, class, mmwave::BAD_TOTAL),
-        count: counted(t.count, class, mmwave::BAD_COUNT),
-        kind: counted(t.kind, class, mmwave::BAD_TYPE),
-        length: counted(t.length, class, mmwave::BAD_LENGTH),
+        magic: counted(t.magic, class, mmwave_pieces::NO_MAGIC),
+        total: counted(t.total, class, mmwave_pieces::BAD_TOTAL),
+        count: counted(t.count, class, mmwave_pieces::BAD_COUNT),
+        kind: counted(t.kind, class, mmwave_pieces::BAD_TYPE),
+        length: counted(t.length, class, mmwave_pieces::BAD_LENGTH),
         waiting: counted(t.waiting, class, 0),
         sum: mixed(t.sum, number_of(j)),
     }
@@ -198,7 +198,7 @@ fn judgement(buf: &[u8], from: usize, n: usize) -> Judgement {
         return Judgement::Waiting;
     }
     let end = from + n;
-    mmwave::judge(&buf[from..end])
+    mmwave_judge::judge(&buf[from..end])
 }
 
 fn judged(t: Tally, buf: &[u8], from: usize, n: usize) -> Tally {
