@@ -56,8 +56,8 @@ fn judge_part(bytes: &[u8], d: Dialect) -> Judgement
     ensures { λ r. ⌜ r ≡ judgeOf d (now (bytes .entry)) ⌝ }
 {
     match d {
-        Dialect::Sirad => sirad::judge(bytes),
-        Dialect::Mmwave => mmwave::judge(bytes),
+        Dialect::Sirad => sirad_judge::judge(bytes),
+        Dialect::Mmwave => mmwave_judge::judge(bytes),
     }
 }
 

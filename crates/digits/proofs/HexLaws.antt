@@ -1,6 +1,6 @@
 -- Hex numbers of any width: both directions, lengths and bounds. But for the laws of `digit_of`, every test on a byte goes through one view of it, `Hexness`.
 use mathlib.Core.Path.{_≡_, refl, sym, ap, _∙_}
-use mathlib.Core.Bool.{Bool, true, false}
+use mathlib.Core.Bool.{Bool, true, false, _||_}
 use mathlib.Core.List.{List, [], _∷_, _++_, append-nil}
 use Prim.Native.Nat.{ℕ, zero, suc, _+_, _-_, _*_, _/_, _%_, _^_, _<_, _≤_}
 use native.Mathlib.Nat.{pow-succ', pow-le-pow-right, lt-of-lt-of-le, mul-le-mul-right, mul-assoc, add-zero, zero-add, one-mul}
@@ -19,6 +19,10 @@ use Rattle.digits.proofs.Choices.{and-left}
 -- the lower bound of a range that holds
 pub within-low : (low high b : ℕ) → within low high b ≡ true → low ≤ b
 within-low low high b h = leb-true low b (and-left (leb low b) (leb b high) h)
+
+-- a figure or a letter
+pub hex-of : (b : ℕ) (figure letter : Bool) → figure ≡ within 48 57 b → letter ≡ within 65 70 b → (figure || letter) ≡ isHex b
+hex-of b figure letter e f = rw (e, f)
 
 module _ (b : ℕ) where
   -- 0 to 9

@@ -1,8 +1,9 @@
 // Classes of bytes; numbers as bytes, hex and little-endian, both ways; stores into a lent buffer.
 
 ghost use mathlib.Core.Path.{_≡_};
+ghost use mathlib.Core.Bool.{_&&_, _||_};
 ghost use mathlib.Core.List.{[], _∷_};
-ghost use Rattle.digits.specs.Bytes.{within, isCharacter};
+ghost use Rattle.digits.specs.Bytes.{within, isHex, isCharacter};
 ghost use Rattle.digits.specs.Hex.{digit};
 ghost use Rattle.digits.specs.LittleEndian.{fromLittle, wordAt};
 ghost use Rattle.digits.specs.Stores.{wordStored};
@@ -22,12 +23,35 @@ pub struct Written {
     pub size: usize,
 }
 
+// -- Tests, by calls where `&&` and `||` would branch on the data
+
+pub fn both(a: bool, b: bool) -> bool
+    ensures { λ r. ⌜ r ≡ (a && b) ⌝ }
+{
+    a && b
+}
+
+fn either(a: bool, b: bool) -> bool
+    ensures { λ r. ⌜ r ≡ (a || b) ⌝ }
+{
+    a || b
+}
+
 // -- Single bytes
 
 fn between(low: u8, high: u8, b: u8) -> bool
     ensures { λ r. ⌜ r ≡ within low high b ⌝ }
 {
     low <= b && b <= high
+}
+
+// Whether a byte is an upper-case hex digit: 70 (`F`) is, 71 and 102 (`f`) are not.
+pub fn is_hex(b: u8) -> bool
+    ensures { λ r. ⌜ r ≡ isHex b ⌝ }
+{
+    let figure = between(b'0', b'9', b);
+    let letter = between(b'A', b'F', b);
+    either(figure, letter)
 }
 
 // Whether a byte is a character: 34 and 254 are, 33 (`!`) and 255 are not.

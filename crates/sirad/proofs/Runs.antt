@@ -1,11 +1,10 @@
 -- The laws of single bytes and runs of bytes: a run is judged by its first bytes and then by what is left of it.
-use mathlib.Core.Bool.{Bool, true, false, _&&_, _||_}
+use mathlib.Core.Bool.{Bool, true, false, _&&_}
 use mathlib.Core.Path.{_≡_, refl, sym, ap, _∙_}
 use mathlib.Core.List.{List}
 use Prim.Native.Nat.{ℕ, zero, suc, _+_, _-_, _<_, _≤_}
 use native.Mathlib.Omega.{arith}
 use lib.ListN.{length, getD}
-use Rattle.digits.specs.Bytes.{within, isHex}
 use Rattle.digits.proofs.Choices.{and-left, and-right}
 use Rattle.form.specs.declared.Judgement.{Judgement}
 use Rattle.form.specs.declared.Judgement.the-variants.{Whole, Bad, Waiting}
@@ -17,10 +16,6 @@ use Rattle.sirad.specs.Classes.{accepts, reason}
 use Rattle.sirad.specs.Sirad.{run}
 
 -- -- One byte
-
--- a figure or a letter
-pub hex-of : (b : ℕ) (figure letter : Bool) → figure ≡ within 48 57 b → letter ≡ within 65 70 b → (figure || letter) ≡ isHex b
-hex-of b figure letter e f = rw (e, f)
 
 module _ (r : ℕ) (t : ℕ → Bool) (at : ℕ) (s : List ℕ) where
   -- no byte is there

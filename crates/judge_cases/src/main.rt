@@ -1,0 +1,59 @@
+// Reads slices from standard input, each behind its length in four bytes, and prints of each its length and both judgements.
+use form::Judgement;
+use libc::STDIN_FILENO;
+use libc::STDOUT_FILENO;
+
+fn field(n: u64) {
+    io::write_all(STDOUT_FILENO, b" ");
+    io::print_decimal(STDOUT_FILENO, n);
+}
+
+fn print_judgement(j: Judgement) {
+    match j {
+        Judgement::Whole(kind, size) => {
+            io::write_all(STDOUT_FILENO, b" whole");
+            field(kind as u64);
+            field(size as u64);
+        }
+        Judgement::Bad(reason) => {
+            io::write_all(STDOUT_FILENO, b" bad");
+            field(reason as u64);
+        }
+        Judgement::Waiting => {
+            io::write_all(STDOUT_FILENO, b" waiting");
+        }
+    }
+}
+
+fn judge_one(s: &[u8]) {
+    io::print_decimal(STDOUT_FILENO, s.len() as u64);
+    io::write_all(STDOUT_FILENO, b" sirad");
+    print_judgement(sirad_judge::judge(s));
+    io::write_all(STDOUT_FILENO, b" mmwave");
+    print_judgement(mmwave_judge::judge(s));
+    io::write_all(STDOUT_FILENO, b"\n");
+}
+
+fn judge_all(all: &[u8]) {
+    let mut at: usize = 0;
+    while at < all.len() {
+        let size = digits::word_at(all, at) as usize;
+        let rest = all.len() - at;
+        if rest < 4 {
+            return;
+        }
+        if rest - 4 < size {
+            return;
+        }
+        let from = at + 4;
+        let end = from + size;
+        judge_one(&all[from..end]);
+        at = end;
+    }
+}
+
+fn main() {
+    let mut all = io::large_buffer();
+    let n = io::read_full(STDIN_FILENO, &mut all);
+    judge_all(&all[..n]);
+}

@@ -1,0 +1,19 @@
+-- Without records there is only the padding; else the walk says.
+use Rattle.mmwave.specs.MmWave.{mmWave}
+use Rattle.mmwave.proofs.Within.{settled-none}
+use borrow.Author.Needs.{needs}
+use Rattle.mmwave_judge.proofs.all_records.Statement.{statement}
+use Rattle.mmwave_judge.proofs.all_records.Tie as tie
+
+returns : tie.Need-returns
+returns c = let a = c .before .before .args in
+    settled-none mmWave (a .objects) (a .k) (a .room) 40 (a .s .now) (c .if1 .taken) (c .before .before .pre)
+
+walk-inside-requires : tie.Need-walk-inside-requires
+walk-inside-requires c κs = search needs
+
+returns-2 : tie.Need-returns-2
+returns-2 c = c .walk-inside .ensures
+
+pub all-records-spec : {M : Type 1} → statement M
+all-records-spec = tie.close (tie.spec returns walk-inside-requires returns-2)

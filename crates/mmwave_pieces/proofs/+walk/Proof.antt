@@ -1,0 +1,152 @@
+-- The first record, and then the remaining ones, one fewer; a whole record lies in the room.
+use borrow.Author.Needs.{needs}
+use mathlib.Core.Path.{_≡_, refl, sym, ap, _∙_}
+use native.Mathlib.Omega.{arith}
+use Rattle.form.specs.Form.{Form, judgeAt}
+use Rattle.form.proofs.Laws.{go-on, halt}
+use Rattle.mmwave.specs.MmWave.{mmWave}
+use Rattle.mmwave.proofs.Laws.{records-none, records-more, entry-fits}
+use Rattle.mmwave.proofs.MmWaveSound.{mmWave-sound}
+use Prim.Native.Nat.{ℕ, _<_}
+use borrow.Fn.Kinds.{In}
+use borrow.Fn.PlainCycle.{Measures, is, falls, and}
+use Rattle.mmwave_pieces.proofs.walk.Reads as walk
+use Rattle.mmwave_pieces.proofs.walk.Kinds as walk-kinds
+use Rattle.mmwave_pieces.proofs.+walk.Lts-walk as walk-lts
+use Rattle.mmwave_pieces.proofs.padding_at.Reads as padding-at-reads
+use Rattle.mmwave_pieces.proofs.record_at.Reads as record-at-reads
+use Rattle.mmwave_pieces.proofs.+walk.{statement}
+use Rattle.mmwave_pieces.proofs.+walk.Tie.{close}
+
+abbrev μ-walk : Measures 1 walk-kinds.ps ℕ
+μ-walk κs a = a .1 .1 .1 .0
+
+abbrev walk-at : ℕ → In 1 walk-kinds.ps
+walk-at t = and 1 walk-kinds.ps (is 1 walk-kinds.ps μ-walk t) walk.Pre
+
+abbrev walk-below : ℕ → In 1 walk-kinds.ps
+walk-below t = and 1 walk-kinds.ps (falls 1 walk-kinds.ps _<_ μ-walk t) walk.Pre
+
+walk-padding-at-requires : (t : ℕ) → walk-lts.Need-padding-at-requires (
+  padding-at-reads.Asked,
+  padding-at-reads.Learnt,
+  record-at-reads.Asked,
+  record-at-reads.Learnt,
+  walk-below t,
+  walk.Post,
+) (walk-at t) walk.Post
+walk-padding-at-requires t c κs = search needs
+
+walk-returns : (t : ℕ) → walk-lts.Need-returns (
+  padding-at-reads.Asked,
+  padding-at-reads.Learnt,
+  record-at-reads.Asked,
+  record-at-reads.Learnt,
+  walk-below t,
+  walk.Post,
+) (walk-at t) walk.Post
+walk-returns t c = c .padding-at .ensures ∙ records-none mmWave _ _ _ _ _ (c .before .if1 .taken)
+
+walk-record-at-requires : (t : ℕ) → walk-lts.Need-record-at-requires (
+  padding-at-reads.Asked,
+  padding-at-reads.Learnt,
+  record-at-reads.Asked,
+  record-at-reads.Learnt,
+  walk-below t,
+  walk.Post,
+) (walk-at t) walk.Post
+walk-record-at-requires t c κs = search needs
+
+walk-enum-known-a : (t : ℕ) → walk-lts.Need-enum-known-a (
+  padding-at-reads.Asked,
+  padding-at-reads.Learnt,
+  record-at-reads.Asked,
+  record-at-reads.Learnt,
+  walk-below t,
+  walk.Post,
+) (walk-at t) walk.Post
+walk-enum-known-a t c = search needs
+
+walk-returns-2 : (t : ℕ) → walk-lts.Need-returns-2 (
+  padding-at-reads.Asked,
+  padding-at-reads.Learnt,
+  record-at-reads.Asked,
+  record-at-reads.Learnt,
+  walk-below t,
+  walk.Post,
+) (walk-at t) walk.Post
+walk-returns-2 t c = let a = c .before .before .before .before .args in
+    halt _ _ _ _ (c .before .record-at .ensures) (c .match .keys2) ∙ sym (ap (λ (p : Form). judgeAt p (a .at) (a .s .now)) (records-more mmWave _ _ _ (c .before .before .if1 .left)))
+
+walk-sub-walk : (t : ℕ) → walk-lts.Need-sub-walk (
+  padding-at-reads.Asked,
+  padding-at-reads.Learnt,
+  record-at-reads.Asked,
+  record-at-reads.Learnt,
+  walk-below t,
+  walk.Post,
+) (walk-at t) walk.Post
+walk-sub-walk t c = search needs
+
+walk-cast-walk : (t : ℕ) → walk-lts.Need-cast-walk (
+  padding-at-reads.Asked,
+  padding-at-reads.Learnt,
+  record-at-reads.Asked,
+  record-at-reads.Learnt,
+  walk-below t,
+  walk.Post,
+) (walk-at t) walk.Post
+walk-cast-walk t c = search needs
+
+walk-sub-walk-2 : (t : ℕ) → walk-lts.Need-sub-walk-2 (
+  padding-at-reads.Asked,
+  padding-at-reads.Learnt,
+  record-at-reads.Asked,
+  record-at-reads.Learnt,
+  walk-below t,
+  walk.Post,
+) (walk-at t) walk.Post
+walk-sub-walk-2 t c = entry-fits mmWave mmWave-sound _ _ _ _ _ _ _ (c .before .before .before .before .if1 .left) (c .before .before .before .record-at .ensures) (c .before .a .given .1)
+
+walk-walk-requires : (t : ℕ) → walk-lts.Need-walk-requires (
+  padding-at-reads.Asked,
+  padding-at-reads.Learnt,
+  record-at-reads.Asked,
+  record-at-reads.Learnt,
+  walk-below t,
+  walk.Post,
+) (walk-at t) walk.Post
+walk-walk-requires t c κs = (omega (arith, c .before .before .before .before .before .before .pre .0, c .before .before .before .before .if1 .left), tt)
+
+walk-returns-3 : (t : ℕ) → walk-lts.Need-returns-3 (
+  padding-at-reads.Asked,
+  padding-at-reads.Learnt,
+  record-at-reads.Asked,
+  record-at-reads.Learnt,
+  walk-below t,
+  walk.Post,
+) (walk-at t) walk.Post
+walk-returns-3 t c = let a = c .before .before .before .before .before .before .before .args in
+    c .walk .ensures ∙ sym (ap (λ (p : Form). judgeAt p (a .at) (a .s .now)) (records-more mmWave _ _ _ (c .before .before .before .before .before .if1 .left)) ∙ go-on _ _ _ _ (c .before .before .before .before .record-at .ensures) (c .before .before .a .given .1))
+
+pub +walk-spec : {M : Type 1} → statement M
++walk-spec = close μ-walk λ t. walk-lts.spec (
+  padding-at-reads.Asked,
+  padding-at-reads.Learnt,
+  record-at-reads.Asked,
+  record-at-reads.Learnt,
+  walk-below t,
+  walk.Post,
+)
+    (walk-at t)
+    walk.Post
+    (walk-padding-at-requires t)
+    (walk-returns t)
+    (walk-record-at-requires t)
+    (walk-enum-known-a t)
+    (walk-returns-2 t)
+    (walk-sub-walk t)
+    (walk-cast-walk t)
+    (walk-sub-walk-2 t)
+    (walk-walk-requires t)
+    (walk-returns-3 t)

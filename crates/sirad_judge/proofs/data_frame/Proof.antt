@@ -1,0 +1,59 @@
+-- `sirad::data_frame` meets its contract. The size, the run of reserved bytes and data, the stop marker.
+use borrow.Author.Needs.{needs}
+use mathlib.Core.Path.{sym, _∙_}
+use Rattle.form.proofs.Laws.{go-on, halt}
+use Rattle.sirad.specs.Rows.{dataPieces}
+use Rattle.sirad.specs.Sirad.{row}
+use Rattle.sirad.proofs.Laws.{data-form}
+use Rattle.sirad_judge.proofs.data_frame.Statement.{statement}
+use Rattle.sirad_judge.proofs.data_frame.Tie as tie
+
+hex-number-requires : tie.Need-hex-number-requires
+hex-number-requires c κs = search needs
+
+enum-known-a : tie.Need-enum-known-a
+enum-known-a c = search needs
+
+returns : tie.Need-returns
+returns c = halt _ (λ n. row (dataPieces n) (c .before .before .before .args .kind)) _ _ (c .before .hex-number .ensures) (c .match .keys2)
+
+cast-count : tie.Need-cast-count
+cast-count c = search needs
+
+add-count : tie.Need-add-count
+add-count c = search needs
+
+chars-requires : tie.Need-chars-requires
+chars-requires c κs = search needs
+
+enum-known-b : tie.Need-enum-known-b
+enum-known-b c = search needs
+
+returns-2 : tie.Need-returns-2
+returns-2 c = halt _ _ _ _ (c .before .chars .ensures) (c .match2 .keys2)
+    ∙ sym (data-form _ _ _ _)
+    ∙ sym (go-on _ (λ n. row (dataPieces n) (c .before .before .before .before .before .before .before .args .kind)) _ _ (c .before .before .before .before .before .hex-number .ensures) (c .before .before .before .a .given .1))
+
+stop-requires : tie.Need-stop-requires
+stop-requires c κs = search needs
+
+returns-3 : tie.Need-returns-3
+returns-3 c = c .stop .ensures
+    ∙ sym (go-on _ _ _ _ (c .before .before .before .before .chars .ensures) (c .before .before .b .given .1))
+    ∙ sym (data-form _ _ _ _)
+    ∙ sym (go-on _ (λ n. row (dataPieces n) (c .before .before .before .before .before .before .before .before .before .before .args .kind)) _ _ (c .before .before .before .before .before .before .before .before .hex-number .ensures) (c .before .before .before .before .before .before .a .given .1))
+
+pub data-frame-spec : {M : Type 1} → statement M
+data-frame-spec =
+    tie.close
+    (tie.spec
+    hex-number-requires
+    enum-known-a
+    returns
+    cast-count
+    add-count
+    chars-requires
+    enum-known-b
+    returns-2
+    stop-requires
+    returns-3)

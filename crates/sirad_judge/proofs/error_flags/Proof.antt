@@ -1,0 +1,28 @@
+-- `sirad::error_flags` meets its contract. The digits, the stop marker.
+use borrow.Author.Needs.{needs}
+use mathlib.Core.Path.{sym, _∙_}
+use Rattle.form.proofs.Laws.{go-on, halt}
+use Rattle.sirad.proofs.Laws.{error-form}
+use Rattle.sirad_judge.proofs.error_flags.Statement.{statement}
+use Rattle.sirad_judge.proofs.error_flags.Tie as tie
+
+run-of-requires : tie.Need-run-of-requires
+run-of-requires c κs = search needs
+
+enum-known-a : tie.Need-enum-known-a
+enum-known-a c = search needs
+
+returns : tie.Need-returns
+returns c = halt _ _ _ _ (c .before .run-of .ensures) (c .match .keys2)
+    ∙ sym (error-form _ _)
+
+stop-requires : tie.Need-stop-requires
+stop-requires c κs = search needs
+
+returns-2 : tie.Need-returns-2
+returns-2 c = c .stop .ensures
+    ∙ sym (go-on _ _ _ _ (c .before .before .before .before .run-of .ensures) (c .before .before .a .given .1))
+    ∙ sym (error-form _ _)
+
+pub error-flags-spec : {M : Type 1} → statement M
+error-flags-spec = tie.close (tie.spec run-of-requires enum-known-a returns stop-requires returns-2)

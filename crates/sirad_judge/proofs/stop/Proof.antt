@@ -1,0 +1,47 @@
+-- `sirad::stop` meets its contract. The two stop bytes, one after the other.
+use borrow.Author.Needs.{needs}
+use mathlib.Core.Path.{sym, _∙_}
+use Rattle.form.proofs.Laws.{go-on, halt}
+use Rattle.sirad.proofs.Laws.{stop-form}
+use Rattle.sirad.proofs.Runs.{whole-here}
+use Rattle.sirad_judge.proofs.stop.Statement.{statement}
+use Rattle.sirad_judge.proofs.stop.Tie as tie
+
+byte-of-requires : tie.Need-byte-of-requires
+byte-of-requires c κs = search needs
+
+enum-known-a : tie.Need-enum-known-a
+enum-known-a c = search needs
+
+returns : tie.Need-returns
+returns c = halt _ _ _ _ (c .before .byte-of .ensures) (c .match .keys2)
+    ∙ sym (stop-form _ _ _)
+
+byte-of-requires-2 : tie.Need-byte-of-requires-2
+byte-of-requires-2 c κs = search needs
+
+enum-known-b : tie.Need-enum-known-b
+enum-known-b c = search needs
+
+returns-2 : tie.Need-returns-2
+returns-2 c = halt _ _ _ _ (c .before .byte-of2 .ensures) (c .match2 .keys2)
+    ∙ sym (go-on _ _ _ _ (c .before .before .before .before .before .byte-of .ensures) (c .before .before .before .a .given .1))
+    ∙ sym (stop-form _ _ _)
+
+returns-3 : tie.Need-returns-3
+returns-3 c = whole-here _ _ _
+    ∙ sym (go-on _ _ _ _ (c .before .before .before .byte-of2 .ensures) (c .before .b .given .1))
+    ∙ sym (go-on _ _ _ _ (c .before .before .before .before .before .before .before .byte-of .ensures) (c .before .before .before .before .before .a .given .1))
+    ∙ sym (stop-form _ _ _)
+
+pub stop-spec : {M : Type 1} → statement M
+stop-spec =
+    tie.close
+    (tie.spec
+    byte-of-requires
+    enum-known-a
+    returns
+    byte-of-requires-2
+    enum-known-b
+    returns-2
+    returns-3)

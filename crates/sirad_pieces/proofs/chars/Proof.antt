@@ -1,0 +1,59 @@
+-- `sirad::chars` meets its contract. What is left of the run is judged as the whole run is; each turn takes a part of it.
+use borrow.Author.Needs.{needs}
+use mathlib.Core.Path.{_≡_, refl, sym, _∙_}
+use native.Mathlib.Omega.{arith}
+use Rattle.form.specs.Form.{judgeAt}
+use Rattle.sirad.specs.Sirad.{run}
+use Rattle.sirad.specs.declared.Class.the-variants.{Char}
+use Rattle.sirad.proofs.Runs.{run-over, part-next, part-halts}
+use Rattle.sirad_pieces.proofs.chars.Statement.{statement}
+use Rattle.sirad_pieces.proofs.chars.Tie as tie
+
+abbrev Inv-loop : tie.InvT-loop
+Inv-loop s from n at₀ left₀ at left = judgeAt (run n Char) from s ≡ judgeAt (run left Char) at s
+
+abbrev μ-loop : tie.MeasureT-loop
+μ-loop s from n at₀ left₀ at left = left
+
+loop-holds : tie.Need-loop-holds Inv-loop μ-loop
+loop-holds c = refl
+
+step-of-requires : tie.Need-step-of-requires Inv-loop μ-loop
+step-of-requires c κs = search needs
+
+run-of-requires : tie.Need-run-of-requires Inv-loop μ-loop
+run-of-requires c κs = search needs
+
+enum-known-a : tie.Need-enum-known-a Inv-loop μ-loop
+enum-known-a c = search needs
+
+returns : tie.Need-returns Inv-loop μ-loop
+returns c = part-halts _ _ _ _ _ (c .before .before .step-of .ensures .most) (c .before .run-of .ensures) (c .match .keys2) ∙ sym (c .before .before .before .before .loop .inv)
+
+sub-left : tie.Need-sub-left Inv-loop μ-loop
+sub-left c = omega (arith, c .before .before .before .before .step-of .ensures .most)
+
+loop-less : tie.Need-loop-less Inv-loop μ-loop
+loop-less c = omega (arith, c .before .before .before .before .step-of .ensures .most, c .before .before .before .before .step-of .ensures .some (c .before .before .before .before .before .loop-test .taken))
+
+loop-again : tie.Need-loop-again Inv-loop μ-loop
+loop-again c = c .before .before .before .before .before .before .loop .inv ∙ part-next _ _ _ _ _ (c .before .before .before .before .step-of .ensures .most) (c .before .before .before .run-of .ensures) (c .before .a .given .1)
+
+returns-2 : tie.Need-returns-2 Inv-loop μ-loop
+returns-2 c = run-over _ _ _ _ (c .loop-test .left) ∙ sym (c .before .loop .inv)
+
+pub chars-spec : {M : Type 1} → statement M
+chars-spec =
+    tie.close
+    (tie.spec
+    Inv-loop
+    μ-loop
+    loop-holds
+    step-of-requires
+    run-of-requires
+    enum-known-a
+    returns
+    sub-left
+    loop-less
+    loop-again
+    returns-2)

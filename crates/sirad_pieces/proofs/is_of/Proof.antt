@@ -1,0 +1,49 @@
+-- `sirad::is_of` meets its contract. One arm for each class.
+use borrow.Author.Needs.{needs}
+use Rattle.sirad_pieces.proofs.is_of.Statement.{statement}
+use Rattle.sirad_pieces.proofs.is_of.Tie as tie
+
+enum-told : tie.Need-enum-told
+enum-told c = search needs
+
+is-hex-requires : tie.Need-is-hex-requires
+is-hex-requires c κs = search needs
+
+enum-told-2 : tie.Need-enum-told-2
+enum-told-2 c = search needs
+
+is-character-requires : tie.Need-is-character-requires
+is-character-requires c κs = search needs
+
+enum-told-3 : tie.Need-enum-told-3
+enum-told-3 c = search needs
+
+enum-told-4 : tie.Need-enum-told-4
+enum-told-4 c = search needs
+
+returns : tie.Need-returns
+returns c = rw (c .before .enum-told .given .1) (c .is-hex .ensures)
+
+returns-2 : tie.Need-returns-2
+returns-2 c = rw (c .before .enum-told2 .given .1) (c .is-character .ensures)
+
+returns-3 : tie.Need-returns-3
+returns-3 c = rw (c .enum-told3 .given .1)
+
+returns-4 : tie.Need-returns-4
+returns-4 c = rw (c .enum-told4 .given .1)
+
+pub is-of-spec : {M : Type 1} → statement M
+is-of-spec =
+    tie.close
+    (tie.spec
+    enum-told
+    is-hex-requires
+    enum-told-2
+    is-character-requires
+    enum-told-3
+    enum-told-4
+    returns
+    returns-2
+    returns-3
+    returns-4)

@@ -1,0 +1,230 @@
+#!/usr/bin/env python3
+"""The slices that judge_cases reads, and the lines it prints of them, from paper 01 ("SiRad", "mmWave", "Judging a place", "Values at
+the edges") and documents 000 and 004 alone. `judge_cases.py stdin` writes the slices, each behind its length in four bytes.
+
+The judgement of a packet is read off the paper by searching: a length, a type or a record count passes if some choice of what
+follows ends so that L is the smallest multiple of 32 not below the end of the last record.
+"""
+
+import pathlib
+import struct
+import sys
+from functools import lru_cache
+
+STDIN = pathlib.Path(__file__).resolve().parent.parent.parent / "crates" / "judge_cases" / "stdin"
+
+
+# -- SiRad
+
+HEX = frozenset(b"0123456789ABCDEF")
+CHARACTER = frozenset(range(34, 255))
+BLOCK = [(1, HEX, 12), (4, HEX, 12), (1, CHARACTER, 13), (4, HEX, 12), (4, CHARACTER, 13)]
+BODY = {
+    ord("T"): (4, [(1, HEX, 12), (1, CHARACTER, 13)] + 16 * BLOCK),
+    ord("U"): (5, [(1, HEX, 12), (1, CHARACTER, 13)] + 5 * [(4, HEX, 12)]),
+    ord("E"): (6, [(4, HEX, 12)]),
+}
+SIZED = {ord("R"): 1, ord("P"): 2, ord("C"): 3}
+
+
+def sirad(bs):
+    """("whole", kind, length), ("bad", reason) or ("waiting",)."""
+    if len(bs) == 0:
+        return ("waiting",)
+    if bs[0] != ord("!"):
+        return ("bad", 10)
+    if len(bs) == 1:
+        return ("waiting",)
+    if bs[1] in SIZED:
+        kind = SIZED[bs[1]]
+        size = bytes(bs[2:6])
+        for b in size:
+            if b not in HEX:
+                return ("bad", 12)
+        if len(size) < 4:
+            return ("waiting",)
+        at, fields = 6, [(8, CHARACTER, 13), (int(size, 16), CHARACTER, 13)]
+    elif bs[1] in BODY:
+        kind, fields = BODY[bs[1]]
+        at = 2
+    else:
+        return ("bad", 11)
+    for count, allowed, reason in fields + [(1, b"\r", 14), (1, b"\n", 14)]:
+        part = bs[at:at + count]
+        if not set(part) <= set(allowed):
+            return ("bad", reason)
+        if len(part) < count:
+            return ("waiting",)
+        at += count
+    return ("whole", kind, at)
+
+
+# -- mmWave
+
+MAGIC = bytes([0x02, 0x01, 0x04, 0x03, 0x06, 0x05, 0x08, 0x07])
+WAITING = ("waiting",)
+
+
+def number(data, offset):
+    return int.from_bytes(data[offset:offset + 4], "little")
+
+
+def legal(tag, objects, size):
+    """Is this payload length legal for the type?"""
+    if tag == 1:
+        return objects != 0 and size == 16 * objects
+    if tag == 7:
+        return objects != 0 and size == 4 * objects
+    if tag in (2, 3, 5):
+        return size % 2 == 0
+    if tag in (4, 8):
+        return size % 4 == 0
+    if tag == 6:
+        return size == 24
+    if tag == 9:
+        return size == 28
+    return True
+
+
+def ends_well(end, total):
+    """Is the total length the smallest multiple of 32 not below the end?"""
+    return end <= total and -(-end // 32) * 32 == total
+
+
+@lru_cache(maxsize=None)
+def rest_can_end(place, records, total):
+    """Can so many records of any types and lengths from this place on end well? A free type has every length."""
+    if records == 0:
+        return ends_well(place, total)
+    return any(ends_well(end, total) for end in range(total, place + 8 * records - 1, -1))
+
+
+@lru_cache(maxsize=None)
+def some_length(tag, objects, place, records, total):
+    """Does some legal length of the type, in the first of so many records, let them end well?"""
+    longest = total - place - 8
+    return any(
+        legal(tag, objects, size) and rest_can_end(place + 8 + size, records - 1, total)
+        for size in range(longest, -1, -1)
+    )
+
+
+def mmwave(data):
+    for i, byte in enumerate(data[:8]):
+        if byte != MAGIC[i]:
+            return ("bad", 20)
+    if len(data) < 16:
+        return WAITING
+    total = number(data, 12)
+    if total % 32 != 0 or not 64 <= total <= 32768:
+        return ("bad", 21)
+    if len(data) < 36:
+        return WAITING
+    objects, records = number(data, 28), number(data, 32)
+    if records > 32 or 8 * records > total - 40 or (records == 0 and total != 64):
+        return ("bad", 22)
+    place = 40
+    for left in range(records, 0, -1):
+        if len(data) < place + 4:
+            return WAITING
+        tag = number(data, place)
+        if not some_length(tag, objects, place, left, total):
+            return ("bad", 23)
+        if len(data) < place + 8:
+            return WAITING
+        size = number(data, place + 4)
+        if not legal(tag, objects, size) or not rest_can_end(place + 8 + size, left - 1, total):
+            return ("bad", 24)
+        place += 8 + size
+        if len(data) < place:
+            return WAITING
+    assert ends_well(place, total)
+    if len(data) < total:
+        return WAITING
+    return ("whole", 16, total)
+
+
+# -- The slices
+
+def starts():
+    """Nothing, the start marker alone, no start, a space in front, identifiers that no frame has, two starts."""
+    return [b"", b"!", b"E0000\r\n", b" !E0000\r\n", b"!I0000\r\n", b"!e0000\r\n", b"!!E0000\r\n"]
+
+
+def error_frames():
+    """Whole, with more behind it, cut, a lower-case digit, one over F, no LF yet, no LF, LF first, a digit too many."""
+    return [b"!E0000\r\n", b"!E0000\r\n !E0001\r\n", b"!E00", b"!E00a0\r\n", b"!E00G0\r\n", b"!E0000\r", b"!E0000\r!E0000\r\n",
+            b"!E0000\n\r", b"!E00000\r\n"]
+
+
+def data_frames():
+    """A lower-case size, a start in the reserved bytes, a start and a space in the data, whole, short, long, a stop as size; the
+    characters at the limits and the bytes beside them."""
+    limits = [b"!P000100000000" + bytes([c]) + b"\r\n" for c in (33, 34, 254, 255)]
+    return [b"!R000f00000000", b"!R00010000!000x\r\n", b"!R0003000000000!x\r\n", b"!R000300000000x x\r\n",
+            b"!R000300000000xyz\r\n", b"!R000300000000xy\r\n", b"!R000300000000xyzw\r\n", b"!R00\r\n"] + limits
+
+
+def whole_frames():
+    """A frame of each kind, all free bytes `0`: whole, and without its last byte."""
+    heads = [(b"!R0000", 16), (b"!P0001", 17), (b"!C00FF", 271), (b"!T5Z00", 230), (b"!U5Z00", 26), (b"!E0001", 8)]
+    frames = [head + b"0" * (length - len(head) - 2) + b"\r\n" for head, length in heads]
+    return [part for frame in frames for part in (frame, frame[:-1])]
+
+
+def packet(total, objects, records, behind=b"", ends=None):
+    """A header with free fields of their own, what follows it, and zeros up to the end; or only the first bytes of that."""
+    ends = total if ends is None else ends
+    fields = [0x03050004, total, 0xA6843, 7, 0xFFFFFFFF, objects, records, 3]
+    return (MAGIC + struct.pack("<8I", *fields) + behind).ljust(ends, b"\0")[:ends]
+
+
+def record(tag, size, payload=b""):
+    return struct.pack("<2I", tag, size) + payload
+
+
+def edges():
+    """The packet lines of the paper's table."""
+    return [packet(64, 0, 0), packet(64, 0, 1, record(10, 16)), packet(64, 0, 1, record(10, 17), 48),
+            packet(64, 0, 1, record(6, 24), 44), packet(96, 0, 1, record(6, 24))]
+
+
+def refused_packets():
+    """By reason: the last byte of the magic; totals; counts; types without a length that fits; lengths."""
+    whole = packet(64, 0, 0)
+    magic = whole[:7] + b"\x06" + whole[8:]
+    totals = [packet(total, 0, 0, ends=16) for total in (32, 80, 32800, 2**32 - 32)]
+    counts = [packet(96, 0, 0, ends=36), packet(64, 0, 4, ends=36), packet(32768, 0, 33, ends=36), packet(64, 0, 2**29, ends=36)]
+    types = [packet(64, 0, 1, record(1, 0), 44), packet(64, 2**28, 1, record(1, 0), 44), packet(64, 2**30, 1, record(7, 0), 44)]
+    lengths = [packet(64, 0, 1, record(2, 15), 48), packet(64, 0, 1, record(4, 14), 48), packet(96, 1, 1, record(10, 16), 48)]
+    return [magic] + totals + counts + types + lengths
+
+
+def three_records():
+    """Points, statistics and a free record in 160 bytes: whole, with a byte behind it, and cut at and inside its fields."""
+    whole = packet(160, 2, 3, record(1, 32, bytes(32)) + record(6, 24, bytes(24)) + record(10, 10, bytes(range(10))))
+    cuts = [0, 7, 8, 11, 15, 16, 31, 35, 36, 39, 40, 43, 44, 47, 48, 80, 84, 122, 159]
+    return [whole, whole + b"\x02"] + [whole[:end] for end in cuts]
+
+
+def most_records():
+    """Thirty-two records without payloads fill 320 bytes, and neither 288 nor 352."""
+    return [packet(total, 0, 32, 32 * record(10, 0)) for total in (288, 320, 352)]
+
+
+def slices():
+    return starts() + error_frames() + data_frames() + whole_frames() + edges() + refused_packets() + three_records() + most_records()
+
+
+def main():
+    given = b"".join(struct.pack("<I", len(s)) + s for s in slices())
+    if sys.argv[1:] == ["stdin"]:
+        sys.stdout.buffer.write(given)
+        return
+    if STDIN.read_bytes() != given:
+        sys.exit("crates/judge_cases/stdin holds other slices")
+    for data in slices():
+        print(len(data), "sirad", *sirad(data), "mmwave", *mmwave(data))
+
+
+main()
