@@ -167,7 +167,7 @@ fn show(c: Command) {
 // Reads the first n bytes.
 fn read_first(bytes: &[u8], n: usize) {
     if n <= bytes.len() {
-        show(demorad::read_command(&bytes[..n]));
+        show(demorad_read::read_command(&bytes[..n]));
     }
 }
 
@@ -185,7 +185,7 @@ fn write_in(out: &mut [u8], n: usize, rd: bool, code: u32, count: u32, words: [u
     if out.len() < n {
         return;
     }
-    let w = demorad::write_command(&mut out[..n], rd, code, count, words);
+    let w = demorad_write::write_command(&mut out[..n], rd, code, count, words);
     io::write_all(STDOUT_FILENO, b" =");
     field(w.refusal as u64);
     field(w.size as u64);
@@ -255,7 +255,7 @@ fn write_selections(code: u32) {
 // -- Reading
 
 fn read_in(out: &mut [u8], n: usize, header: u32, first: u32, second: u32) {
-    demorad::write_command(out, false, ANY, 30, words_of(first, second));
+    demorad_write::write_command(out, false, ANY, 30, words_of(first, second));
     digits::put_word(out, 0, header);
     read_first(out, n);
 }

@@ -136,7 +136,7 @@ pub extern "C" fn vq_write_error(out: &mut [u8], flags: u16) -> Written
 pub extern "C" fn vq_header(packet: &[u8]) -> HeaderNumbers
     ensures { λ r. ⌜ r ≡ headerNumbers (headerOf mmWave (now (packet .entry))) ⌝ }
 {
-    let answer = packet::header(packet);
+    let answer = packet_fields::header(packet);
     let fields = answer.fields;
     HeaderNumbers {
         refusal: answer.refusal,
@@ -156,7 +156,7 @@ pub extern "C" fn vq_header(packet: &[u8]) -> HeaderNumbers
 pub extern "C" fn vq_record(packet: &[u8], index: usize) -> PacketRecord
     ensures { λ r. ⌜ RecordShown mmWave (now (packet .entry)) index r ⌝ }
 {
-    packet::record(packet, index)
+    packet_fields::record(packet, index)
 }
 
 // The record that starts at `at`, and the offset behind it; 5, 6.
@@ -164,7 +164,7 @@ pub extern "C" fn vq_record(packet: &[u8], index: usize) -> PacketRecord
 pub extern "C" fn vq_step(packet: &[u8], at: usize) -> PacketStep
     ensures { λ r. ⌜ StepShown mmWave (now (packet .entry)) at r ⌝ }
 {
-    packet::step(packet, Cursor { at })
+    packet_fields::step(packet, Cursor { at })
 }
 
 // Point `index` of a packet in millimetres; 5, 7, 6, then 30 or 31.
@@ -172,7 +172,7 @@ pub extern "C" fn vq_step(packet: &[u8], at: usize) -> PacketStep
 pub extern "C" fn vq_point(packet: &[u8], index: usize) -> PacketPoint
     ensures { λ r. ⌜ r ≡ pointOf mmWave (now (packet .entry)) index ⌝ }
 {
-    packet::point(packet, index)
+    packet_points::point(packet, index)
 }
 
 // -- DemoRad commands
@@ -192,7 +192,7 @@ fn rd_number(rd: bool) -> u32
 pub extern "C" fn vq_read_command(bytes: &[u8]) -> CommandNumbers
     ensures { λ r. ⌜ r ≡ commandNumbers (readCommand (now (bytes .entry))) ⌝ }
 {
-    let command = demorad::read_command(bytes);
+    let command = demorad_read::read_command(bytes);
     let words = command.words;
     let rd = rd_number(command.rd);
     CommandNumbers {
@@ -223,5 +223,5 @@ pub extern "C" fn vq_write_command(out: &mut [u8], command: CommandNumbers) -> W
             size: 0,
         };
     }
-    demorad::write_command(out, command.rd == 1, command.code, command.count, words)
+    demorad_write::write_command(out, command.rd == 1, command.code, command.count, words)
 }

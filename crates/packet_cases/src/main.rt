@@ -40,7 +40,7 @@ fn end_line() {
 }
 
 fn print_header(s: &[u8]) {
-    let answer = packet::header(s);
+    let answer = packet_fields::header(s);
     let h = answer.fields;
     io::write_all(STDOUT_FILENO, b"header");
     field(answer.refusal as u64);
@@ -94,7 +94,7 @@ fn records(s: &[u8]) {
     let mut j: usize = 0;
     while j < MOST_LINES {
         if j < std::num::wrapping_add_usize(count, 2) {
-            print_record(j, packet::record(s, j));
+            print_record(j, packet_fields::record(s, j));
         }
         j += 1;
     }
@@ -105,7 +105,7 @@ fn steps(s: &[u8]) {
     let mut at = Header::SIZE;
     let mut left: usize = MOST_LINES;
     while 0 < left {
-        let step = packet::step(s, Cursor { at });
+        let step = packet_fields::step(s, Cursor { at });
         print_step(at, step);
         if step.refusal != 0 {
             return;
@@ -122,7 +122,7 @@ fn starts(s: &[u8]) {
     let mut count: u64 = 0;
     let mut sum: u64 = 0;
     while at < s.len() {
-        let step = packet::step(s, Cursor { at });
+        let step = packet_fields::step(s, Cursor { at });
         if step.refusal == 0 {
             count = std::num::wrapping_add_u64(count, 1);
             sum = (sum % 16777213 * 241 + at as u64 % 65536) % 16777213;
@@ -137,7 +137,7 @@ fn starts(s: &[u8]) {
 
 // Where the points are, each of them, and two indices over the count.
 fn points(s: &[u8]) {
-    let found = packet::points(s);
+    let found = packet_points::points(s);
     io::write_all(STDOUT_FILENO, b"points");
     field(found.refusal as u64);
     field(found.start as u64);
@@ -149,7 +149,7 @@ fn points(s: &[u8]) {
         if i < std::num::wrapping_add_usize(count, 2) {
             io::write_all(STDOUT_FILENO, b"point");
             field(i as u64);
-            print_point(packet::point(s, i));
+            print_point(packet_points::point(s, i));
         }
         i += 1;
     }
