@@ -14,6 +14,7 @@ ghost use Rattle.mmwave.specs.MmWave.{mmWave, perObject};
 use form::Judgement;
 
 // The packet header's fields; its offsets and its size are the type's constants.
+#[repr(C)]
 pub struct Header {
     pub version: u32,
     pub total: u32,

@@ -1,4 +1,4 @@
--- `packet_fields::payload_length` meets its contract: no word stands behind the bytes.
+-- `packet_fields::payload_length` meets its contract: behind the bytes there is no word.
 use mathlib.Core.Path.{sym}
 use native.Mathlib.Omega.{arith}
 use Rattle.digits.proofs.LittleEndianLaws.{word-missing}
@@ -16,7 +16,7 @@ word-at-requires : tie.Need-word-at-requires
 word-at-requires c κs = search needs
 
 returns-2 : tie.Need-returns-2
-returns-2 c = search needs
+returns-2 c = c .word-at .ensures
 
 pub payload-length-spec : {M : Type 1} → statement M
 payload-length-spec = tie.close (tie.spec returns add-word-at word-at-requires returns-2)
