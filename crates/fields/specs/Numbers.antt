@@ -1,33 +1,12 @@
--- A packet's header and a command as numbers that cross to C (paper 01, "Fields" and "DemoRad").
+-- A command as numbers that cross to C (paper 01, "DemoRad").
 use mathlib.Core.Bool.{Bool, cond}
 use mathlib.Core.List.{List}
 use Prim.Native.Nat.{ℕ}
 use lib.Dec.{eqb, leb}
-use Rattle.packet.specs.declared.PacketHeader.{PacketHeader}
 use Rattle.demorad.specs.Rules.{legality}
 use Rattle.demorad.specs.Image.{commandBytes}
 use Rattle.demorad.specs.declared.Command.{Command}
-use Rattle.fields.specs.declared.HeaderNumbers.{HeaderNumbers}
 use Rattle.fields.specs.declared.CommandNumbers.{CommandNumbers}
-
--- -- A header
-
--- the refusal, and the eight fields in wire order
-abbrev pub headerNumbers : PacketHeader → HeaderNumbers
-headerNumbers h =
-    record {
-      refusal = h .refusal;
-      version = h .fields .version;
-      total = h .fields .total;
-      platform = h .fields .platform;
-      frame = h .fields .frame;
-      time = h .fields .time;
-      objects = h .fields .objects;
-      records = h .fields .records;
-      subframe = h .fields .subframe;
-    }
-
--- -- A command
 
 -- RD as a number: 1 if it is set, else 0
 abbrev pub rdNumber : Bool → ℕ

@@ -1,8 +1,9 @@
-// The C face of fields and commands: the readers and writers of `sirad_fields`, `packet` and `demorad` under names for C, each with its own
+// The C face of fields and commands: the readers and writers of SiRad frames, packets and commands under names for C, each with its own
 // promise. A slice is a pointer that is not null and a count; a struct crosses by value.
 
 use digits::Written;
 use packet::Cursor;
+use packet::PacketHeader;
 use packet::PacketPoint;
 use packet::PacketRecord;
 use packet::PacketStep;
@@ -18,24 +19,10 @@ ghost use Rattle.sirad_fields.specs.Fields.{statusNumbers, statusRefusal, statu
 ghost use Rattle.mmwave.specs.MmWave.{mmWave};
 ghost use Rattle.packet.specs.Fields.{headerOf, RecordShown, StepShown, pointOf};
 ghost use Rattle.demorad.specs.Reading.{readCommand};
-ghost use Rattle.fields.specs.Numbers.{headerNumbers, rdNumber, commandNumbers, numbersRefusal, numbersBytes};
+ghost use Rattle.fields.specs.Numbers.{rdNumber, commandNumbers, numbersRefusal, numbersBytes};
 
 // Refused: a value without an encoding (paper 01, "Refusal numbers").
 const NO_ENCODING: u32 = 50;
-
-// A packet's header: the refusal number (0: none), and the fields in wire order.
-#[repr(C)]
-pub struct HeaderNumbers {
-    pub refusal: u32,
-    pub version: u32,
-    pub total: u32,
-    pub platform: u32,
-    pub frame: u32,
-    pub time: u32,
-    pub objects: u32,
-    pub records: u32,
-    pub subframe: u32,
-}
 
 // A command: the refusal number (0: none), RD as 0 or 1, the code, the payload count and thirty words.
 // A host may hand over any number as RD, so it is no `bool` here.
@@ -133,22 +120,10 @@ pub extern "C" fn vq_write_error(out: &mut [u8], flags: u16) -> Written
 
 // The header of exactly one whole packet; else 5.
 #[no_mangle]
-pub extern "C" fn vq_header(packet: &[u8]) -> HeaderNumbers
-    ensures { λ r. ⌜ r ≡ headerNumbers (headerOf mmWave (now (packet .entry))) ⌝ }
+pub extern "C" fn vq_header(packet: &[u8]) -> PacketHeader
+    ensures { λ r. ⌜ r ≡ headerOf mmWave (now (packet .entry)) ⌝ }
 {
-    let answer = packet::header(packet);
-    let fields = answer.fields;
-    HeaderNumbers {
-        refusal: answer.refusal,
-        version: fields.version,
-        total: fields.total,
-        platform: fields.platform,
-        frame: fields.frame,
-        time: fields.time,
-        objects: fields.objects,
-        records: fields.records,
-        subframe: fields.subframe,
-    }
+    packet_fields::header(packet)
 }
 
 // Record `index` of a packet: its type and the part of the slice that is its payload; 5, 6.
@@ -156,7 +131,7 @@ pub extern "C" fn vq_header(packet: &[u8]) -> HeaderNumbers
 pub extern "C" fn vq_record(packet: &[u8], index: usize) -> PacketRecord
     ensures { λ r. ⌜ RecordShown mmWave (now (packet .entry)) index r ⌝ }
 {
-    packet::record(packet, index)
+    packet_fields::record(packet, index)
 }
 
 // The record that starts at `at`, and the offset behind it; 5, 6.
@@ -164,7 +139,7 @@ pub extern "C" fn vq_record(packet: &[u8], index: usize) -> PacketRecord
 pub extern "C" fn vq_step(packet: &[u8], at: usize) -> PacketStep
     ensures { λ r. ⌜ StepShown mmWave (now (packet .entry)) at r ⌝ }
 {
-    packet::step(packet, Cursor { at })
+    packet_fields::step(packet, Cursor { at })
 }
 
 // Point `index` of a packet in millimetres; 5, 7, 6, then 30 or 31.
@@ -172,7 +147,7 @@ pub extern "C" fn vq_step(packet: &[u8], at: usize) -> PacketStep
 pub extern "C" fn vq_point(packet: &[u8], index: usize) -> PacketPoint
     ensures { λ r. ⌜ r ≡ pointOf mmWave (now (packet .entry)) index ⌝ }
 {
-    packet::point(packet, index)
+    packet_points::point(packet, index)
 }
 
 // -- DemoRad commands
@@ -192,7 +167,7 @@ fn rd_number(rd: bool) -> u32
 pub extern "C" fn vq_read_command(bytes: &[u8]) -> CommandNumbers
     ensures { λ r. ⌜ r ≡ commandNumbers (readCommand (now (bytes .entry))) ⌝ }
 {
-    let command = demorad::read_command(bytes);
+    let command = demorad_read::read_command(bytes);
     let words = command.words;
     let rd = rd_number(command.rd);
     CommandNumbers {
@@ -223,5 +198,5 @@ pub extern "C" fn vq_write_command(out: &mut [u8], command: CommandNumbers) -> W
             size: 0,
         };
     }
-    demorad::write_command(out, command.rd == 1, command.code, command.count, words)
+    demorad_write::write_command(out, command.rd == 1, command.code, command.count, words)
 }

@@ -3,18 +3,11 @@
 
 use capture::Verdict;
 use form::JudgementNumbers;
+use units::Quantity;
 ghost use mathlib.Core.Path.{_≡_};
 ghost use Rattle.capture.specs.Dialects.{dialectOf};
 ghost use Rattle.capture.specs.Entries.{verdict, verdictNumbers};
 ghost use Rattle.units.specs.Units.{millimetres};
-ghost use Rattle.gateway.specs.Numbers.{quantityNumbers};
-
-// A coordinate in whole millimetres, or the refusal number.
-#[repr(C)]
-pub struct Millimetres {
-    pub refusal: u32,
-    pub value: i32,
-}
 
 // The judgement of the bytes from `offset` on: `!E0000`, CR, LF in dialect 0 at offset 0 is whole (state 1), of kind 6 and 8 bytes.
 // With a refusal every other number is 0, and no state is.
@@ -34,14 +27,10 @@ pub extern "C" fn vq_judge(dialect: u32, bytes: &[u8], offset: usize) -> Judgeme
     }
 }
 
-// The 32 bits of a coordinate in metres as whole millimetres: 0x3D800000 is 63.
+// The 32 bits of a coordinate in metres as whole millimetres, or the refusal number: 0x3D800000 is 63.
 #[no_mangle]
-pub extern "C" fn vq_millimetres(bits: u32) -> Millimetres
-    ensures { λ r. ⌜ r ≡ quantityNumbers (millimetres bits) ⌝ }
+pub extern "C" fn vq_millimetres(bits: u32) -> Quantity
+    ensures { λ r. ⌜ r ≡ millimetres bits ⌝ }
 {
-    let q = units::coordinate_to_millimetres(bits);
-    Millimetres {
-        refusal: q.refusal,
-        value: q.value,
-    }
+    units::coordinate_to_millimetres(bits)
 }

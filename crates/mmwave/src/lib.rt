@@ -1,6 +1,7 @@
 // The mmWave packet (paper 01, "mmWave"; document 004): its types, definitions and laws.
 
 // The packet header's fields; its offsets and its size are the type's constants.
+#[repr(C)]
 pub struct Header {
     pub version: u32,
     pub total: u32,

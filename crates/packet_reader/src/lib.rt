@@ -29,14 +29,14 @@ pub struct RecordPart<'a> {
 fn step_at(bytes: &[u8], at: usize) -> PacketStep
     ensures { λ r. ⌜ r ≡ stepOf mmWave (now (bytes .entry)) at ⌝ }
 {
-    packet::step(bytes, Cursor { at })
+    packet_fields::step(bytes, Cursor { at })
 }
 
 // Record `index`, by its numbers.
 fn record_at(bytes: &[u8], index: usize) -> PacketRecord
     ensures { λ r. ⌜ RecordShown mmWave (now (bytes .entry)) index r ⌝ }
 {
-    packet::record(bytes, index)
+    packet_fields::record(bytes, index)
 }
 
 // The part of the slice that a record names as its payload; empty where the slice has no such part.

@@ -48,6 +48,7 @@ const LEAST_SHIFT: u32 = ONE_SCALE - LEAST_BITS / LEADING_ONE;
 const MILLIMETRES_IN_METRE: u64 = 1000;
 
 // A value, or the refusal number with the value 0.
+#[repr(C)]
 pub struct Quantity {
     pub refusal: u32,
     pub value: i32,

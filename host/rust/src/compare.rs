@@ -372,7 +372,9 @@ fn check_goes_on(
     let shifted = shifted.flat_map(|row| [row[0] + first.next as u32, row[1], row[2]]);
     let rows: Vec<u32> = first_rows.iter().copied().chain(shifted).collect();
     if all != joined || all_table[..rows.len()] != rows {
-        return Err(format!("a table of {numbers}: {first:?}, then {rest:?} from there on, but {all:?} in one reading"));
+        return Err(format!(
+            "a table of {numbers}: {first:?}, then {rest:?} from there on, but {all:?} in one reading"
+        ));
     }
     Ok(())
 }

@@ -9,7 +9,8 @@ use radar_reference::abi::fields::{
 };
 use radar_reference::abi::Reference;
 use radar_reference::compare::fields::{
-    compare_commands, compare_frames, compare_packets, compare_written_commands, compare_written_frames,
+    check_throughout, compare_commands, compare_frames, compare_packets, compare_written_commands,
+    compare_written_frames,
 };
 use radar_reference::compare::{Difference, Tally};
 
@@ -155,6 +156,13 @@ mod library {
     }
 
     #[test]
+    fn packets_at_the_edges_agree() {
+        for slice in slices() {
+            check_throughout(&Gateway, &slice).unwrap_or_else(|difference| panic!("{difference}"));
+        }
+    }
+
+    #[test]
     fn commands_agree() {
         assert_agrees(&COMMANDS, &Gateway);
     }
@@ -168,6 +176,19 @@ mod library {
     fn written_frames_agree() {
         assert_agrees(&WRITTEN_FRAMES, &Gateway);
     }
+}
+
+/// The packets at the edges, and slices that are none: what the program packet_cases reads, each behind its length.
+fn slices() -> Vec<Vec<u8>> {
+    let file = concat!(env!("CARGO_MANIFEST_DIR"), "/../../crates/packet_cases/stdin");
+    let bytes = std::fs::read(file).expect(file);
+    let (mut rest, mut slices) = (&bytes[..], Vec::new());
+    while let Some((length, behind)) = rest.split_first_chunk() {
+        let (slice, behind) = behind.split_at(u32::from_le_bytes(*length) as usize);
+        slices.push(slice.to_vec());
+        rest = behind;
+    }
+    slices
 }
 
 // The runs themselves, on the reader and on readers that are wrong on purpose.
@@ -605,6 +626,20 @@ const WRONG_WRITTEN_FRAMES: &[(&str, Wrong)] = &[
         }),
     ),
 ];
+
+/// The edges find each of them without a seed.
+#[test]
+fn every_wrong_reader_is_found_at_the_edges() {
+    for (run, readers) in [(COMMANDS, WRONG_COMMANDS), (WRITTEN_COMMANDS, WRONG_WRITTEN_COMMANDS)] {
+        for (what, wrong) in readers {
+            let found = (run.compare)(wrong, 1, 0).expect_err(what);
+            assert!(found.to_string().contains("a fixed case"), "{what}: {found}");
+        }
+    }
+    for (what, wrong) in WRONG_PACKETS {
+        assert!(slices().iter().any(|slice| check_throughout(wrong, slice).is_err()), "{what}");
+    }
+}
 
 #[test]
 fn every_wrong_reader_is_found() {

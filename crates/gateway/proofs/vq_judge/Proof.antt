@@ -18,10 +18,15 @@ numbers-of-requires : tie.Need-numbers-of-requires
 numbers-of-requires c κs = search needs
 
 returns : tie.Need-returns
-returns c = ap verdictNumbers (sym (c .before .number .given .1) ∙ c .before .before .before .judge-at .ensures .answers)
+returns c =
+    let judged = c .before .before .before .judge-at .ensures .answers in
+    ap verdictNumbers (sym (c .before .number .given .1) ∙ judged)
 
 returns-2 : tie.Need-returns-2
-returns-2 c = c .numbers-of .ensures ∙ ap verdictNumbers (sym (c .before .before .j .given .1) ∙ c .before .before .before .before .judge-at .ensures .answers)
+returns-2 c =
+    let w = c .before .before in
+    let judged = w .before .before .judge-at .ensures .answers in
+    c .numbers-of .ensures ∙ ap verdictNumbers (sym (w .j .given .1) ∙ judged)
 
 pub vq-judge-spec : {M : Type 1} → statement M
 vq-judge-spec =

@@ -81,6 +81,16 @@ impl<'a> Run<'a> {
         Ok(())
     }
 
+    /// One command as bytes.
+    fn check_command(&mut self, bytes: &[u8]) -> Result<(), Difference> {
+        let command =
+            self.check("read_command", bytes, |subject| subject.read_command(bytes), |answer| answer.refusal)?;
+        if command.refusal == 0 {
+            self.tally.count(format!("read_command, code {:04X}", command.code));
+        }
+        Ok(())
+    }
+
     /// Compares what a writer answers and all of its output, of which every byte is set before.
     fn check_writer(
         &mut self,
@@ -132,6 +142,20 @@ pub fn compare_frames(subject: &dyn FieldSubject, first_seed: u64, frames: u64) 
     run.seed = None;
     run.check_frame(b"")?;
     run.check_frame(&too_long(b"!E0000\r\n"))?;
+    Ok(run.tally)
+}
+
+/// A packet from every place, its records and points at every index, and each a little beyond.
+pub fn check_throughout(subject: &dyn FieldSubject, packet: &[u8]) -> Result<Tally, Difference> {
+    let mut run = Run::new("check_throughout", subject);
+    run.check_packet(&mut Random::new(1), packet)?;
+    for place in 0..packet.len() + 2 {
+        run.check("step", packet, |subject| subject.step(packet, place), |answer| answer.refusal)?;
+    }
+    let objects = Reference.header(packet).objects as usize;
+    for index in 0..objects.min(packet.len() / 16) + 2 {
+        run.check("point", packet, |subject| subject.point(packet, index), |answer| answer.refusal)?;
+    }
     Ok(run.tally)
 }
 
@@ -203,22 +227,22 @@ fn point_indexes(objects: usize) -> Vec<usize> {
     indexes
 }
 
-/// So many commands as bytes.
+/// So many commands as bytes, then those at the edges.
 pub fn compare_commands(subject: &dyn FieldSubject, first_seed: u64, commands: u64) -> Result<Tally, Difference> {
     let mut run = Run::new("compare_commands", subject);
     for seed in first_seed..first_seed + commands {
         run.seed = Some(seed);
-        let bytes = &demorad::bytes(&mut Random::new(seed))[..];
-        let command =
-            run.check("read_command", bytes, |subject| subject.read_command(bytes), |answer| answer.refusal)?;
-        if command.refusal == 0 {
-            run.tally.count(format!("read_command, code {:04X}", command.code));
-        }
+        run.check_command(&demorad::bytes(&mut Random::new(seed)))?;
+    }
+    run.seed = None;
+    for bytes in demorad::edge_bytes() {
+        run.check_command(&bytes)?;
     }
     Ok(run.tally)
 }
 
-/// So many commands to be written.
+/// So many commands to be written, then those at the edges: into an output of their size, one byte short, and six longer. What
+/// is written is read again.
 pub fn compare_written_commands(
     subject: &dyn FieldSubject,
     first_seed: u64,
@@ -232,6 +256,20 @@ pub fn compare_written_commands(
         let command = Command { refusal: random.below(3) as u32, rd, code, count, words };
         let room = room_for(&mut random, 4 * (count as usize + 1).min(31));
         run.check_writer("write_command", &command, room, |subject, output| subject.write_command(output, command))?;
+    }
+    run.seed = None;
+    for Values { rd, code, count, words } in demorad::edge_values() {
+        let command = Command { refusal: count % 3, rd, code, count, words };
+        let size = 4 * (count.min(31) as usize + 1);
+        for room in [size, size - 1, size + 6] {
+            run.check_writer("write_command", &command, room, |subject, output| {
+                subject.write_command(output, command)
+            })?;
+        }
+        let mut output = vec![0; size];
+        if run.subject.write_command(&mut output, command).refusal == 0 {
+            run.check_command(&output)?;
+        }
     }
     Ok(run.tally)
 }

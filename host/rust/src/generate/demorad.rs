@@ -108,6 +108,102 @@ pub fn bytes(random: &mut Random) -> Vec<u8> {
     bytes
 }
 
+// The edges, one by one.
+
+/// The seven codes, unknown ones beside them, and one whose lower half is a code.
+const CODES: [u32; 13] =
+    [0x6005, 0x6006, 0x6007, 0x6008, 0x7003, 0x900E, 0x9017, 0, 0x6004, 0x6009, 0x7002, 0x9018, 0x1_6005];
+
+/// Selections about every bound.
+const SELECTIONS: [u32; 7] = [0, 1, 2, 3, 4, 5, u32::MAX];
+
+/// Thirty words: two given ones, then words whose bytes count up.
+fn words_from(first: u32, second: u32) -> [u32; 30] {
+    let mut words = std::array::from_fn(|index| 0x0302_0100 + 0x0404_0404 * index as u32);
+    words[..2].copy_from_slice(&[first, second]);
+    words
+}
+
+/// Each code with each count up to 31 and with the largest, RD both ways; each selection as the first and the second of 1, 2
+/// and 30 words, with an RD that is a flag and with some that are none.
+pub fn edge_values() -> Vec<Values> {
+    let mut all = Vec::new();
+    for code in CODES {
+        for count in (0..32).chain([u32::MAX]) {
+            all.extend([0, 1].map(|rd| Values { rd, code, count, words: words_from(1, 2) }));
+        }
+        for selection in SELECTIONS {
+            for (count, first, second) in [
+                (1, selection, 0),
+                (2, selection, 0),
+                (2, 0, selection),
+                (30, 0, selection),
+                (30, selection, selection),
+            ] {
+                let words = words_from(first, second);
+                all.extend([count & 1, 2, 0x8000_0001].map(|rd| Values { rd, code, count, words }));
+            }
+        }
+    }
+    all
+}
+
+/// Each code of 16 bits with each length, RD both ways, and with each selection as above; each length with the byte count
+/// right, one and four off; each bit of a header, alone and above a legal length; more than one refusal at once.
+pub fn edge_bytes() -> Vec<Vec<u8>> {
+    let mut all = Vec::new();
+    let mut case = |size: usize, header: u32, first: u32, second: u32| {
+        let words = [header].into_iter().chain(words_from(first, second)).chain([0xAAAA_AAAA; 4]);
+        all.push(words.flat_map(u32::to_le_bytes).take(size).collect());
+    };
+    for code in CODES.into_iter().filter(|&code| code < 0x1_0000) {
+        for length in 0..32 {
+            for rd in [0, 1 << 31] {
+                case(4 * length as usize, rd | length << 16 | code, 1, 2);
+            }
+        }
+        for selection in SELECTIONS {
+            for (length, first, second) in [
+                (2, selection, 0),
+                (3, selection, 0),
+                (3, 0, selection),
+                (31, 0, selection),
+                (31, selection, selection),
+            ] {
+                case(4 * length as usize, length << 16 | code, first, second);
+            }
+        }
+    }
+    for length in 0..32 {
+        let size = 4 * length as usize;
+        for size in [Some(size), Some(size + 1), Some(size + 4), size.checked_sub(1), size.checked_sub(4)] {
+            size.into_iter().for_each(|size| case(size, length << 16 | 0x6008, 0, 0));
+        }
+    }
+    for bit in 0..32 {
+        case(4, 1 << bit, 0, 0);
+        if bit > 20 {
+            case(4, 1 << bit | 0x0001_6008, 0, 0);
+        }
+    }
+    for (size, header, word) in [
+        (0, 0, 0),
+        (1, u32::MAX, 0),
+        (3, u32::MAX, 0),
+        (5, 0xFFE0_0000, 0),
+        (5, 0x8000_0000, 0),
+        (5, 0x8001_0000, 0),
+        (4, 0x8001_0000, 0),
+        (8, 0x0002_0001, 9),
+        (12, 0x0003_6006, 9),
+        (8, 0x0002_9017, 9),
+        (8, 0x0002_6006, 5),
+    ] {
+        case(size, header, word, 9);
+    }
+    all
+}
+
 #[cfg(test)]
 mod tests {
     use super::*;

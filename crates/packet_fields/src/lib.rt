@@ -1,0 +1,245 @@
+// The header of one whole mmWave packet, its records, and a cursor over them (paper 01, "Fields").
+ghost use mathlib.Core.Path.{_≡_};
+ghost use Prim.Native.Nat.{suc, _≤_};
+ghost use Rattle.mmwave.specs.MmWave.{mmWave};
+ghost use Rattle.mmwave.specs.Paper.{Packet};
+ghost use Rattle.packet.specs.Walk.{lengthAt, endAt, recordAt, startsAmong};
+ghost use Rattle.packet.specs.Fields.{noHeader, headerShown, headerOf};
+ghost use Rattle.packet.specs.Fields.{noRecord, recordShown, recordRead, RecordShown, noStep, stepShown, stepRead, StepShown};
+ghost use Rattle.packet.specs.Internal.{Walkable};
+use form::Judgement;
+use mmwave::Header;
+use packet::Cursor;
+use packet::PacketHeader;
+use packet::PacketRecord;
+use packet::PacketStep;
+
+// Refusals (paper 01, "Refusal numbers").
+pub const NOT_ONE_PACKET: u32 = 5;
+
+pub const NO_SUCH_INDEX: u32 = 6;
+
+// A record's header: type and payload length.
+pub const RECORD_HEADER: usize = 8;
+
+const LENGTH_FIELD: usize = 4;
+
+// -- The walk over the records
+
+// The payload length of the record at `p`; 0 where the bytes end before it.
+pub fn payload_length(s: &[u8], p: usize) -> u32
+    ensures { λ r. ⌜ r ≡ lengthAt (now (s .entry)) p ⌝ }
+{
+    if s.len() < p {
+        return 0;
+    }
+    digits::word_at(s, p + LENGTH_FIELD)
+}
+
+// The offset right behind the record at `p`.
+fn behind(s: &[u8], p: usize) -> usize
+    requires { ⌜ p ≤ 32768 ⌝ }
+    ensures { λ r. ⌜ r ≡ endAt (now (s .entry)) p ⌝ }
+{
+    p + RECORD_HEADER + payload_length(s, p) as usize
+}
+
+// The offset of record `j`, counted from the one at `p`.
+fn place(s: &[u8], p: usize, j: usize) -> usize
+    requires { ⌜ Walkable (now s) (suc j) p ⌝ }
+    ensures { λ r. ⌜ r ≡ recordAt (now (s .entry)) j p ⌝ }
+{
+    if j == 0 {
+        return p;
+    }
+    let next = behind(s, p);
+    place(s, next, j - 1)
+}
+
+// Does one of the `k` records from `p` on start at `at`?
+fn starts(s: &[u8], p: usize, k: u32, at: usize) -> bool
+    requires { ⌜ Walkable (now s) k p ⌝ }
+    ensures { λ r. ⌜ r ≡ startsAmong (now (s .entry)) k p at ⌝ }
+{
+    if k == 0 {
+        return false;
+    }
+    if p == at {
+        return true;
+    }
+    let next = behind(s, p);
+    starts(s, next, k - 1, at)
+}
+
+// -- The header
+
+fn no_header() -> PacketHeader
+    ensures { λ r. ⌜ r ≡ noHeader 5 ⌝ }
+{
+    let fields = Header {
+        version: 0,
+        total: 0,
+        platform: 0,
+        frame: 0,
+        time: 0,
+        objects: 0,
+        records: 0,
+        subframe: 0,
+    };
+    PacketHeader {
+        refusal: NOT_ONE_PACKET,
+        fields,
+    }
+}
+
+// The eight words at their offsets.
+fn read_header(s: &[u8]) -> PacketHeader
+    ensures { λ r. ⌜ r ≡ headerShown (now (s .entry)) ⌝ }
+{
+    let fields = Header {
+        version: digits::word_at(s, Header::VERSION),
+        total: digits::word_at(s, Header::TOTAL),
+        platform: digits::word_at(s, Header::PLATFORM),
+        frame: digits::word_at(s, Header::FRAME),
+        time: digits::word_at(s, Header::TIME),
+        objects: digits::word_at(s, Header::OBJECTS),
+        records: digits::word_at(s, Header::RECORDS),
+        subframe: digits::word_at(s, Header::SUBFRAME),
+    };
+    PacketHeader { refusal: 0, fields }
+}
+
+// The header's eight fields, or 5 if the slice is not exactly one whole packet.
+pub fn header(packet: &[u8]) -> PacketHeader
+    ensures { λ r. ⌜ r ≡ headerOf mmWave (now (packet .entry)) ⌝ }
+{
+    let Judgement::Whole(kind, length) = mmwave_judge::judge(packet) else {
+        return no_header();
+    };
+    if kind != mmwave_pieces::KIND {
+        return no_header();
+    }
+    if length != packet.len() {
+        return no_header();
+    }
+    read_header(packet)
+}
+
+// -- Records
+
+fn no_record(refusal: u32) -> PacketRecord
+    ensures { λ r. ⌜ r ≡ noRecord refusal ⌝ }
+{
+    PacketRecord {
+        refusal,
+        tag: 0,
+        start: 0,
+        length: 0,
+    }
+}
+
+// The record that starts at `p`.
+fn record_from(s: &[u8], p: usize) -> PacketRecord
+    requires { ⌜ p ≤ 32768 ⌝ }
+    ensures { λ r. ⌜ r ≡ recordShown (now (s .entry)) p ⌝ }
+{
+    let tag = digits::word_at(s, p);
+    let length = payload_length(s, p) as usize;
+    let start = p + RECORD_HEADER;
+    PacketRecord {
+        refusal: 0,
+        tag,
+        start,
+        length,
+    }
+}
+
+// Record `index` of a packet.
+fn read_record(s: &[u8], index: usize) -> PacketRecord
+    requires { ⌜ Packet (now s) ⌝ }
+    ensures { λ r. ⌜ r ≡ recordRead (now (s .entry)) index ⌝ }
+{
+    let records = digits::word_at(s, Header::RECORDS) as usize;
+    if records <= index {
+        return no_record(NO_SUCH_INDEX);
+    }
+    let p = place(s, Header::SIZE, index);
+    record_from(s, p)
+}
+
+// Record `index` of the packet: its type and the part of the slice that is its payload; 5, or 6 for an index at or over the record
+// count.
+pub fn record(packet: &[u8], index: usize) -> PacketRecord
+    ensures { λ r. ⌜ RecordShown mmWave (now (packet .entry)) index r ⌝ }
+{
+    let Judgement::Whole(kind, length) = mmwave_judge::judge(packet) else {
+        return no_record(NOT_ONE_PACKET);
+    };
+    if kind != mmwave_pieces::KIND {
+        return no_record(NOT_ONE_PACKET);
+    }
+    if length != packet.len() {
+        return no_record(NOT_ONE_PACKET);
+    }
+    read_record(packet, index)
+}
+
+// -- The cursor
+
+fn no_step(at: usize, refusal: u32) -> PacketStep
+    ensures { λ r. ⌜ r ≡ noStep at refusal ⌝ }
+{
+    PacketStep {
+        refusal,
+        tag: 0,
+        start: 0,
+        length: 0,
+        next: Cursor { at },
+    }
+}
+
+// The step over the record that starts at `p`.
+fn step_from(s: &[u8], p: usize) -> PacketStep
+    requires { ⌜ p ≤ 32768 ⌝ }
+    ensures { λ r. ⌜ r ≡ stepShown (now (s .entry)) p ⌝ }
+{
+    let shown = record_from(s, p);
+    let at = behind(s, p);
+    PacketStep {
+        refusal: 0,
+        tag: shown.tag,
+        start: shown.start,
+        length: shown.length,
+        next: Cursor { at },
+    }
+}
+
+// The step from `at` in a packet.
+fn read_step(s: &[u8], at: usize) -> PacketStep
+    requires { ⌜ Packet (now s) ⌝ }
+    ensures { λ r. ⌜ r ≡ stepRead (now (s .entry)) at ⌝ }
+{
+    let records = digits::word_at(s, Header::RECORDS);
+    if starts(s, Header::SIZE, records, at) {
+        return step_from(s, at);
+    }
+    no_step(at, NO_SUCH_INDEX)
+}
+
+// The record of this packet that starts at the cursor, and the cursor behind it; 5, or 6 where no record starts there. From 40 on,
+// steps give record 0, 1, .. and then 6.
+pub fn step(packet: &[u8], cursor: Cursor) -> PacketStep
+    ensures { λ r. ⌜ StepShown mmWave (now (packet .entry)) (cursor .at) r ⌝ }
+{
+    let at = cursor.at;
+    let Judgement::Whole(kind, length) = mmwave_judge::judge(packet) else {
+        return no_step(at, NOT_ONE_PACKET);
+    };
+    if kind != mmwave_pieces::KIND {
+        return no_step(at, NOT_ONE_PACKET);
+    }
+    if length != packet.len() {
+        return no_step(at, NOT_ONE_PACKET);
+    }
+    read_step(packet, at)
+}
