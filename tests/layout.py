@@ -1,0 +1,38 @@
+"""Fails on a line that is too long, a must-fail edit that is not named FUNCTION-WHAT after a public function of its crate,
+and a public function of a library that asks its caller for something."""
+import pathlib
+import re
+import sys
+
+root = pathlib.Path(__file__).resolve().parent.parent
+LONGEST = {"src": 140, "specs": 140, "proofs": 200}
+wrong = []
+lines = edits = functions = 0
+
+for crate in sorted((root / "crates").iterdir()):
+    for part, longest in LONGEST.items():
+        for path in sorted((crate / part).rglob("*")):
+            if path.suffix not in (".rt", ".antt"):
+                continue
+            for number, line in enumerate(path.read_text().splitlines(), 1):
+                lines += 1
+                if len(line) > longest:
+                    wrong.append(f"{path.relative_to(root)}:{number} has {len(line)} characters, {longest} are the most")
+    source = "".join(path.read_text() for path in sorted((crate / "src").rglob("*.rt")))
+    public = {}
+    for found in re.finditer(r'^\s*pub (?:extern "C" )?fn (\w+)(.*?)^\s*\{$', source, re.M | re.S):
+        public[found[1]] = found[2]
+    functions += len(public)
+    for name, signature in public.items():
+        if (crate / "src" / "lib.rt").exists() and "requires {" in signature:
+            wrong.append(f"crates/{crate.name}: pub fn {name} has a requires")
+    for edit in sorted((crate / "must-fail").glob("*.edit")):
+        edits += 1
+        named = re.fullmatch(r"(\w+)-[a-z0-9]+(-[a-z0-9]+)*", edit.stem)
+        if not named or named[1] not in public:
+            wrong.append(f"{edit.relative_to(root)}: the label is not a public function of the crate, and words joined by '-'")
+
+for row in wrong:
+    print("layout:", row)
+print(f"layout: {lines} lines, {functions} public functions, {edits} edits; {len(wrong)} wrong")
+sys.exit(bool(wrong))
