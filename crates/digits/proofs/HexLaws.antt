@@ -4,6 +4,7 @@ use mathlib.Core.Bool.{Bool, true, false, _||_}
 use mathlib.Core.List.{List, [], _∷_, _++_, append-nil}
 use Prim.Native.Nat.{ℕ, zero, suc, _+_, _-_, _*_, _/_, _%_, _^_, _<_, _≤_}
 use native.Mathlib.Nat.{pow-succ', pow-le-pow-right, lt-of-lt-of-le, mul-le-mul-right, mul-assoc, add-zero, zero-add, one-mul}
+use native.Mathlib.Numerals.{add-one}
 use native.Mathlib.Decide.{decLe}
 use native.Mathlib.Omega.{arith}
 use borrow.Author.Tests.{le-leb, lt-leb, leb-true}
@@ -149,6 +150,10 @@ pub hex-bytes : (bs : List ℕ) → AllHex bs → Bytes bs
 unfolding AllHex Below
 hex-bytes [] h = tt
 hex-bytes (b ∷ bs) (h, hs) = (let r = hex-range b h in omega arith, hex-bytes bs hs)
+
+-- one digit more behind i digits
+pub hex-grows : (i v d : ℕ) → v < 16 ^ i → d < 16 → v * 16 + d < 16 ^ (i + 1)
+hex-grows i v d h l = rw (add-one, pow-succ' 16 i) (omega arith)
 
 from-below : (v : ℕ) (bs : List ℕ) → hexFrom v bs < (v + 1) * 16 ^ length bs
 unfolding hexFrom

@@ -22,11 +22,13 @@ InsideAt p at bs = Inside p (drop at bs)
 
 -- -- One node
 
-byte-in : (r : ℕ) (t : ℕ → Bool) (f : ℕ → Form) (at : ℕ) (bs : List ℕ) → at < length bs → InsideAt (byte r t f) at bs → (t (getD bs at 0) ≡ true) × InsideAt (f (getD bs at 0)) (at + 1) bs
+byte-in : (r : ℕ) (t : ℕ → Bool) (f : ℕ → Form) (at : ℕ) (bs : List ℕ) → at < length bs → InsideAt (byte r t f) at bs
+    → (t (getD bs at 0) ≡ true) × InsideAt (f (getD bs at 0)) (at + 1) bs
 unfolding Inside
 byte-in r t f at bs h i = rw (drop-one bs at h) at i
 
-in-byte : (r : ℕ) (t : ℕ → Bool) (f : ℕ → Form) (at : ℕ) (bs : List ℕ) → at < length bs → (t (getD bs at 0) ≡ true) × InsideAt (f (getD bs at 0)) (at + 1) bs → InsideAt (byte r t f) at bs
+in-byte : (r : ℕ) (t : ℕ → Bool) (f : ℕ → Form) (at : ℕ) (bs : List ℕ) → at < length bs
+    → (t (getD bs at 0) ≡ true) × InsideAt (f (getD bs at 0)) (at + 1) bs → InsideAt (byte r t f) at bs
 unfolding Inside
 in-byte r t f at bs h i = rw (drop-one bs at h) i
 
@@ -34,11 +36,13 @@ byte-out : (r : ℕ) (t : ℕ → Bool) (f : ℕ → Form) (at : ℕ) (bs : List
 unfolding Inside
 byte-out r t f at bs h i = rw (drop-of-length-le bs {i = at} h) at i
 
-word-in : (r : ℕ) (t : ℕ → Bool) (f : ℕ → Form) (at : ℕ) (bs : List ℕ) → at + 4 ≤ length bs → InsideAt (word r t f) at bs → (t (littleAt 4 at bs) ≡ true) × InsideAt (f (littleAt 4 at bs)) (at + 4) bs
+word-in : (r : ℕ) (t : ℕ → Bool) (f : ℕ → Form) (at : ℕ) (bs : List ℕ) → at + 4 ≤ length bs → InsideAt (word r t f) at bs
+    → (t (littleAt 4 at bs) ≡ true) × InsideAt (f (littleAt 4 at bs)) (at + 4) bs
 unfolding Inside
 word-in r t f at bs h i = rw (drop-four bs at h) (rw (drop-four bs at h) at i)
 
-in-word : (r : ℕ) (t : ℕ → Bool) (f : ℕ → Form) (at : ℕ) (bs : List ℕ) → at + 4 ≤ length bs → (t (littleAt 4 at bs) ≡ true) × InsideAt (f (littleAt 4 at bs)) (at + 4) bs → InsideAt (word r t f) at bs
+in-word : (r : ℕ) (t : ℕ → Bool) (f : ℕ → Form) (at : ℕ) (bs : List ℕ) → at + 4 ≤ length bs
+    → (t (littleAt 4 at bs) ≡ true) × InsideAt (f (littleAt 4 at bs)) (at + 4) bs → InsideAt (word r t f) at bs
 unfolding Inside
 in-word r t f at bs h i = rw (drop-four bs at h) (rw (drop-four bs at h) at i)
 
@@ -65,7 +69,8 @@ cut-in r t f at bs h i = (omega (arith, simp length-drop at (in-short r t f (dro
 -- -- Two pieces
 
 -- inside the first, or the first is whole and inside the second
-pub seq-inside : (p : Form) (h : ℕ → Form) (at : ℕ) (bs : List ℕ) → InsideAt (p >>= h) at bs → InsideAt p at bs ⊎ ((u : ℕ) × (d : ℕ) × (judgeAt p at bs ≡ Whole u d) × InsideAt (h u) d bs)
+pub seq-inside : (p : Form) (h : ℕ → Form) (at : ℕ) (bs : List ℕ) → InsideAt (p >>= h) at bs
+    → InsideAt p at bs ⊎ ((u : ℕ) × (d : ℕ) × (judgeAt p at bs ≡ Whole u d) × InsideAt (h u) d bs)
 unfolding _>>=_ judge
 seq-inside (whole v) h at bs i = inr (v, at, refl, i)
 seq-inside (byte r t f) h at bs i = go (decLt at (length bs)) (λ g. seq-inside (f (getD bs at 0)) h (at + 1) bs g)
@@ -74,9 +79,11 @@ seq-inside (byte r t f) h at bs i = go (decLt at (length bs)) (λ g. seq-inside 
     b = getD bs at 0
 
     Next : Type 0
-    Next = InsideAt (f (getD bs at 0)) (at + 1) bs ⊎ ((u : ℕ) × (d : ℕ) × (judgeAt (f (getD bs at 0)) (at + 1) bs ≡ Whole u d) × InsideAt (h u) d bs)
+    Next = InsideAt (f (getD bs at 0)) (at + 1) bs
+        ⊎ ((u : ℕ) × (d : ℕ) × (judgeAt (f (getD bs at 0)) (at + 1) bs ≡ Whole u d) × InsideAt (h u) d bs)
 
-    on : at < length bs → t (getD bs at 0) ≡ true → Next → InsideAt (byte r t f) at bs ⊎ ((u : ℕ) × (d : ℕ) × (judgeAt (byte r t f) at bs ≡ Whole u d) × InsideAt (h u) d bs)
+    on : at < length bs → t (getD bs at 0) ≡ true → Next
+        → InsideAt (byte r t f) at bs ⊎ ((u : ℕ) × (d : ℕ) × (judgeAt (byte r t f) at bs ≡ Whole u d) × InsideAt (h u) d bs)
     on l a (inl j) = inl (in-byte r t f at bs l (a, j))
     on l a (inr g) = inr (g .0, g .1, byte-step r t f at bs l ∙ rw a (g .2), g .3)
 
@@ -87,9 +94,11 @@ seq-inside (byte r t f) h at bs i = go (decLt at (length bs)) (λ g. seq-inside 
 seq-inside (word r t f) h at bs i = go (decLe (at + 4) (length bs)) (λ g. seq-inside (f (littleAt 4 at bs)) h (at + 4) bs g)
   where
     Next : Type 0
-    Next = InsideAt (f (littleAt 4 at bs)) (at + 4) bs ⊎ ((u : ℕ) × (d : ℕ) × (judgeAt (f (littleAt 4 at bs)) (at + 4) bs ≡ Whole u d) × InsideAt (h u) d bs)
+    Next = InsideAt (f (littleAt 4 at bs)) (at + 4) bs
+        ⊎ ((u : ℕ) × (d : ℕ) × (judgeAt (f (littleAt 4 at bs)) (at + 4) bs ≡ Whole u d) × InsideAt (h u) d bs)
 
-    on : at + 4 ≤ length bs → t (littleAt 4 at bs) ≡ true → Next → InsideAt (word r t f) at bs ⊎ ((u : ℕ) × (d : ℕ) × (judgeAt (word r t f) at bs ≡ Whole u d) × InsideAt (h u) d bs)
+    on : at + 4 ≤ length bs → t (littleAt 4 at bs) ≡ true → Next
+        → InsideAt (word r t f) at bs ⊎ ((u : ℕ) × (d : ℕ) × (judgeAt (word r t f) at bs ≡ Whole u d) × InsideAt (h u) d bs)
     on l a (inl j) = inl (in-word r t f at bs l (a, j))
     on l a (inr g) = inr (g .0, g .1, word-step r t f at bs l ∙ rw a (g .2), g .3)
 
@@ -104,27 +113,33 @@ unfolding _>>=_ Inside
 inside-first (whole v) h at bs i = absurd i
 inside-first (byte r t f) h at bs i = go (decLt at (length bs)) (inside-first (f (getD bs at 0)) h (at + 1) bs)
   where
-    go : Dec (at < length bs) → (InsideAt (f (getD bs at 0)) (at + 1) bs → InsideAt (f (getD bs at 0) >>= h) (at + 1) bs) → InsideAt (byte r t (λ b. f b >>= h)) at bs
+    go : Dec (at < length bs) → (InsideAt (f (getD bs at 0)) (at + 1) bs → InsideAt (f (getD bs at 0) >>= h) (at + 1) bs)
+        → InsideAt (byte r t (λ b. f b >>= h)) at bs
     go (yes l) s = let g = byte-in r t f at bs l i in in-byte r t (λ b. f b >>= h) at bs l (g .0, s (g .1))
     go (no n) s = absurd (byte-out r t f at bs (omega arith) i)
 inside-first (word r t f) h at bs i = go (decLe (at + 4) (length bs)) (inside-first (f (littleAt 4 at bs)) h (at + 4) bs)
   where
-    go : Dec (at + 4 ≤ length bs) → (InsideAt (f (littleAt 4 at bs)) (at + 4) bs → InsideAt (f (littleAt 4 at bs) >>= h) (at + 4) bs) → InsideAt (word r t (λ v. f v >>= h)) at bs
+    go : Dec (at + 4 ≤ length bs) → (InsideAt (f (littleAt 4 at bs)) (at + 4) bs → InsideAt (f (littleAt 4 at bs) >>= h) (at + 4) bs)
+        → InsideAt (word r t (λ v. f v >>= h)) at bs
     go (yes l) s = let g = word-in r t f at bs l i in in-word r t (λ v. f v >>= h) at bs l (g .0, s (g .1))
     go (no n) s = in-cut r t (λ v. f v >>= h) at bs (cut-in r t f at bs (omega arith) i)
 
 -- inside what follows a whole piece
-pub inside-then : (p : Form) (h : ℕ → Form) (at : ℕ) (bs : List ℕ) (u d : ℕ) → judgeAt p at bs ≡ Whole u d → InsideAt (h u) d bs → InsideAt (p >>= h) at bs
+pub inside-then : (p : Form) (h : ℕ → Form) (at : ℕ) (bs : List ℕ) (u d : ℕ) → judgeAt p at bs ≡ Whole u d → InsideAt (h u) d bs
+    → InsideAt (p >>= h) at bs
 unfolding _>>=_ judge
 inside-then (whole v) h at bs u d w i = let a : u ≡ v = cc in let b : d ≡ at = cc in rw (a, b) at i
 inside-then (byte r t f) h at bs u d w i = go (decLt at (length bs)) (λ g. inside-then (f (getD bs at 0)) h (at + 1) bs u d g i)
   where
-    on : (x : Bool) → t (getD bs at 0) ≡ x → cond x (judgeAt (f (getD bs at 0)) (at + 1) bs) (Bad r) ≡ Whole u d → (t (getD bs at 0) ≡ true) × (judgeAt (f (getD bs at 0)) (at + 1) bs ≡ Whole u d)
+    on : (x : Bool) → t (getD bs at 0) ≡ x → cond x (judgeAt (f (getD bs at 0)) (at + 1) bs) (Bad r) ≡ Whole u d
+        → (t (getD bs at 0) ≡ true) × (judgeAt (f (getD bs at 0)) (at + 1) bs ≡ Whole u d)
     on true a j = (a, j)
     on false a j = let z : _≡_ {A = ℕ} 0 1 = cc in absurd (omega arith)
 
-    go : Dec (at < length bs) → (judgeAt (f (getD bs at 0)) (at + 1) bs ≡ Whole u d → InsideAt (f (getD bs at 0) >>= h) (at + 1) bs) → InsideAt (byte r t (λ b. f b >>= h)) at bs
-    go (yes l) s = let g = on (t (getD bs at 0)) refl (sym (byte-step r t f at bs l) ∙ w) in in-byte r t (λ b. f b >>= h) at bs l (g .0, s (g .1))
+    go : Dec (at < length bs) → (judgeAt (f (getD bs at 0)) (at + 1) bs ≡ Whole u d → InsideAt (f (getD bs at 0) >>= h) (at + 1) bs)
+        → InsideAt (byte r t (λ b. f b >>= h)) at bs
+    go (yes l) s = let g = on (t (getD bs at 0)) refl (sym (byte-step r t f at bs l) ∙ w) in
+        in-byte r t (λ b. f b >>= h) at bs l (g .0, s (g .1))
     go (no n) s = not-both (byte-ends r t f at bs (omega arith)) w
 inside-then (word r t f) h at bs u d w i = go (decLe (at + 4) (length bs)) (λ g. inside-then (f (littleAt 4 at bs)) h (at + 4) bs u d g i)
   where
@@ -133,8 +148,10 @@ inside-then (word r t f) h at bs u d w i = go (decLe (at + 4) (length bs)) (λ g
     on true a j = (a, j)
     on false a j = let z : _≡_ {A = ℕ} 0 1 = cc in absurd (omega arith)
 
-    go : Dec (at + 4 ≤ length bs) → (judgeAt (f (littleAt 4 at bs)) (at + 4) bs ≡ Whole u d → InsideAt (f (littleAt 4 at bs) >>= h) (at + 4) bs) → InsideAt (word r t (λ v. f v >>= h)) at bs
-    go (yes l) s = let g = on (t (littleAt 4 at bs)) refl (sym (word-step r t f at bs l) ∙ w) in in-word r t (λ v. f v >>= h) at bs l (g .0, s (g .1))
+    go : Dec (at + 4 ≤ length bs) → (judgeAt (f (littleAt 4 at bs)) (at + 4) bs ≡ Whole u d
+        → InsideAt (f (littleAt 4 at bs) >>= h) (at + 4) bs) → InsideAt (word r t (λ v. f v >>= h)) at bs
+    go (yes l) s = let g = on (t (littleAt 4 at bs)) refl (sym (word-step r t f at bs l) ∙ w) in
+        in-word r t (λ v. f v >>= h) at bs l (g .0, s (g .1))
     go (no n) s = not-both (word-ends r t f at bs (omega arith)) w
 
 -- -- The pieces
@@ -159,8 +176,10 @@ unfolding Inside frees
 frees-inside zero at bs i = absurd i
 frees-inside (suc n) at bs i = go (decLe (at + 4) (length bs)) (frees-inside n (at + 4) bs)
   where
-    go : Dec (at + 4 ≤ length bs) → (InsideAt (frees n) (at + 4) bs → (i : ℕ) × (i < n) × Cut (at + 4 + 4 * i) bs) → (i : ℕ) × (i < suc n) × Cut (at + 4 * i) bs
-    go (yes l) s = let g = s (word-in 0 any (λ _. frees n) at bs l i .1) in (suc (g .0), omega (arith, g .1), (omega (arith, g .2 .0), omega (arith, g .2 .1)))
+    go : Dec (at + 4 ≤ length bs) → (InsideAt (frees n) (at + 4) bs → (i : ℕ) × (i < n) × Cut (at + 4 + 4 * i) bs)
+        → (i : ℕ) × (i < suc n) × Cut (at + 4 * i) bs
+    go (yes l) s = let g = s (word-in 0 any (λ _. frees n) at bs l i .1) in
+        (suc (g .0), omega (arith, g .1), (omega (arith, g .2 .0), omega (arith, g .2 .1)))
     go (no m) s = let c = cut-in 0 any (λ _. frees n) at bs (omega arith) i in (0, omega arith, (omega (arith, c .0), omega (arith, c .1)))
 
 -- the bytes of one of n free fields are cut: inside them and all that they begin
@@ -169,7 +188,8 @@ unfolding frees _>>=_
 frees-first zero h at bs i l c = absurd (omega arith)
 frees-first (suc n) h at bs zero l c = in-cut 0 any (λ _. frees n >>= h) at bs (omega (arith, c .0), omega (arith, c .1))
 frees-first (suc n) h at bs (suc i) l c =
-    in-word 0 any (λ _. frees n >>= h) at bs (omega (arith, c .0)) (refl, frees-first n h (at + 4) bs i (omega arith) (omega (arith, c .0), omega (arith, c .1)))
+    in-word 0 any (λ _. frees n >>= h) at bs (omega (arith, c .0))
+    (refl, frees-first n h (at + 4) bs i (omega arith) (omega (arith, c .0), omega (arith, c .1)))
 
 free-out : (n : ℕ) (xs : List ℕ) → Inside (free n) xs → ⊥
 unfolding Inside free

@@ -1,4 +1,5 @@
--- The laws by which code that follows a form is proved: one for each way in which a piece can go, and back from a whole piece to what its bytes were.
+-- The laws by which code that follows a form is proved: one for each way in which a piece can go, and back from a whole piece to what its
+-- bytes were.
 use mathlib.Core.Bool.{Bool, true, false, cond}
 use mathlib.Core.Path.{_≡_, refl, sym, ap, _∙_}
 use mathlib.Core.List.{List, [], _∷_, _++_, append-nil}
@@ -63,7 +64,8 @@ after (Whole v e) h = h v e
 after (Bad r) h = Bad r
 after Waiting h = Waiting
 
-after-cond : (t : Bool) (x : Judgement) (r : ℕ) (h : ℕ → ℕ → Judgement) (y : Judgement) → y ≡ after x h → cond t y (Bad r) ≡ after (cond t x (Bad r)) h
+after-cond : (t : Bool) (x : Judgement) (r : ℕ) (h : ℕ → ℕ → Judgement) (y : Judgement) → y ≡ after x h
+    → cond t y (Bad r) ≡ after (cond t x (Bad r)) h
 after-cond true x r h y e = e
 after-cond false x r h y e = refl
 
@@ -78,9 +80,12 @@ module _ (r : ℕ) (t : ℕ → Bool) (f : ℕ → Form) (h : ℕ → Form) (at 
     where
       go : Dec (at < length bs) → judgeAt (byte r t f >>= h) at bs ≡ after (judgeAt (byte r t f) at bs) (λ v e. judgeAt (h v) e bs)
       go (yes l) = byte-step r t (λ b. f b >>= h) at bs l
-          ∙ after-cond (t (getD bs at 0)) (judgeAt (f (getD bs at 0)) (at + 1) bs) r (λ v e. judgeAt (h v) e bs) (judgeAt (f (getD bs at 0) >>= h) (at + 1) bs) s
+          ∙ after-cond (t (getD bs at 0)) (judgeAt (f (getD bs at 0)) (at + 1) bs) r (λ v e. judgeAt (h v) e bs)
+          (judgeAt (f (getD bs at 0) >>= h) (at + 1) bs) s
           ∙ sym (ap (λ (j : Judgement). after j (λ v e. judgeAt (h v) e bs)) (byte-step r t f at bs l))
-      go (no n) = byte-ends r t (λ b. f b >>= h) at bs (omega arith) ∙ sym (ap (λ (j : Judgement). after j (λ v e. judgeAt (h v) e bs)) (byte-ends r t f at bs (omega arith)))
+      go (no n) =
+          byte-ends r t (λ b. f b >>= h) at bs (omega arith)
+          ∙ sym (ap (λ (j : Judgement). after j (λ v e. judgeAt (h v) e bs)) (byte-ends r t f at bs (omega arith)))
 
   seq-word : Seq (f (littleAt 4 at bs)) h (at + 4) bs → Seq (word r t f) h at bs
   unfolding Seq _>>=_
@@ -88,9 +93,12 @@ module _ (r : ℕ) (t : ℕ → Bool) (f : ℕ → Form) (h : ℕ → Form) (at 
     where
       go : Dec (at + 4 ≤ length bs) → judgeAt (word r t f >>= h) at bs ≡ after (judgeAt (word r t f) at bs) (λ v e. judgeAt (h v) e bs)
       go (yes l) = word-step r t (λ b. f b >>= h) at bs l
-          ∙ after-cond (t (littleAt 4 at bs)) (judgeAt (f (littleAt 4 at bs)) (at + 4) bs) r (λ v e. judgeAt (h v) e bs) (judgeAt (f (littleAt 4 at bs) >>= h) (at + 4) bs) s
+          ∙ after-cond (t (littleAt 4 at bs)) (judgeAt (f (littleAt 4 at bs)) (at + 4) bs) r (λ v e. judgeAt (h v) e bs)
+          (judgeAt (f (littleAt 4 at bs) >>= h) (at + 4) bs) s
           ∙ sym (ap (λ (j : Judgement). after j (λ v e. judgeAt (h v) e bs)) (word-step r t f at bs l))
-      go (no n) = word-ends r t (λ b. f b >>= h) at bs (omega arith) ∙ sym (ap (λ (j : Judgement). after j (λ v e. judgeAt (h v) e bs)) (word-ends r t f at bs (omega arith)))
+      go (no n) =
+          word-ends r t (λ b. f b >>= h) at bs (omega arith)
+          ∙ sym (ap (λ (j : Judgement). after j (λ v e. judgeAt (h v) e bs)) (word-ends r t f at bs (omega arith)))
 
 seq-any : (p : Form) (h : ℕ → Form) (at : ℕ) (bs : List ℕ) → Seq p h at bs
 unfolding Seq _>>=_ judge
@@ -104,7 +112,8 @@ unfolding Seq
 seq p h at bs = seq-any p h at bs
 
 -- the first piece is whole: the rest is judged from its end
-pub go-on : (p : Form) (h : ℕ → Form) (at : ℕ) (bs : List ℕ) {r : Judgement} {v e : ℕ} → r ≡ judgeAt p at bs → r ≡ Whole v e → judgeAt (p >>= h) at bs ≡ judgeAt (h v) e bs
+pub go-on : (p : Form) (h : ℕ → Form) (at : ℕ) (bs : List ℕ) {r : Judgement} {v e : ℕ} → r ≡ judgeAt p at bs → r ≡ Whole v e
+    → judgeAt (p >>= h) at bs ≡ judgeAt (h v) e bs
 go-on p h at bs a b = seq p h at bs ∙ ap (λ (j : Judgement). after j (λ v e. judgeAt (h v) e bs)) (sym a ∙ b)
 
 -- nothing more: the value, and the offset that was come to
@@ -123,7 +132,8 @@ halted Waiting h o = refl
 
 -- the first piece is not whole: its judgement is that of both
 pub halt : (p : Form) (h : ℕ → Form) (at : ℕ) (bs : List ℕ) {r : Judgement} → r ≡ judgeAt p at bs → Halted r → r ≡ judgeAt (p >>= h) at bs
-halt p h at bs {r} a o = sym (seq p h at bs ∙ ap (λ (j : Judgement). after j (λ v e. judgeAt (h v) e bs)) (sym a) ∙ halted r (λ v e. judgeAt (h v) e bs) o)
+halt p h at bs {r} a o =
+    sym (seq p h at bs ∙ ap (λ (j : Judgement). after j (λ v e. judgeAt (h v) e bs)) (sym a) ∙ halted r (λ v e. judgeAt (h v) e bs) o)
 
 -- the first piece is bad: so are both
 pub stop : (p : Form) (h : ℕ → Form) (at : ℕ) (bs : List ℕ) {r : ℕ} → Bad r ≡ judgeAt p at bs → Bad r ≡ judgeAt (p >>= h) at bs
@@ -136,38 +146,51 @@ pub four-waits : (r : ℕ) (t : ℕ → Bool) (at : ℕ) (bs : List ℕ) → len
 four-waits r t at bs h = sym (word-ends r t whole at bs h)
 
 -- a field that is there and passes is whole
-pub four-whole : (r : ℕ) (t : ℕ → Bool) (at : ℕ) (bs : List ℕ) → at + 4 ≤ length bs → t (littleAt 4 at bs) ≡ true → Whole (littleAt 4 at bs) (at + 4) ≡ judgeAt (four r t) at bs
+pub four-whole : (r : ℕ) (t : ℕ → Bool) (at : ℕ) (bs : List ℕ) → at + 4 ≤ length bs → t (littleAt 4 at bs) ≡ true
+    → Whole (littleAt 4 at bs) (at + 4) ≡ judgeAt (four r t) at bs
 unfolding judge
 four-whole r t at bs h a = sym (word-step r t whole at bs h ∙ rw a)
 
 -- a field that is there and does not pass is bad
-pub four-bad : (r : ℕ) (t : ℕ → Bool) (at : ℕ) (bs : List ℕ) → at + 4 ≤ length bs → t (littleAt 4 at bs) ≡ false → Bad r ≡ judgeAt (four r t) at bs
+pub four-bad : (r : ℕ) (t : ℕ → Bool) (at : ℕ) (bs : List ℕ) → at + 4 ≤ length bs → t (littleAt 4 at bs) ≡ false
+    → Bad r ≡ judgeAt (four r t) at bs
 unfolding judge
 four-bad r t at bs h a = sym (word-step r t whole at bs h ∙ rw a)
 
 -- the number of four bytes that are there, by the bytes
-pub little-there : (at : ℕ) (bs : List ℕ) → at + 4 ≤ length bs → fromLittle (getD bs at 0 ∷ getD bs (at + 1) 0 ∷ getD bs (at + 2) 0 ∷ getD bs (at + 3) 0 ∷ []) ≡ littleAt 4 at bs
+pub little-there : (at : ℕ) (bs : List ℕ) → at + 4 ≤ length bs
+    → fromLittle (getD bs at 0 ∷ getD bs (at + 1) 0 ∷ getD bs (at + 2) 0 ∷ getD bs (at + 3) 0 ∷ []) ≡ littleAt 4 at bs
 little-there at bs h = rw (drop-four bs at h)
 
 -- the free field as its bytes give it
 pub number-there : (at : ℕ) (bs : List ℕ) {v : ℕ} → at + 4 ≤ length bs
-    → v ≡ fromLittle (getD bs at 0 ∷ getD bs (at + 1) 0 ∷ getD bs (at + 2) 0 ∷ getD bs (at + 3) 0 ∷ []) → Whole v (at + 4) ≡ judgeAt (four 0 any) at bs
+    → v ≡ fromLittle (getD bs at 0 ∷ getD bs (at + 1) 0 ∷ getD bs (at + 2) 0 ∷ getD bs (at + 3) 0 ∷ [])
+    → Whole v (at + 4) ≡ judgeAt (four 0 any) at bs
 number-there at bs h e = ap (λ (v : ℕ). Whole v (at + 4)) (e ∙ little-there at bs h) ∙ four-whole 0 any at bs h refl
 
 -- a field with a test is the free field, and then the test
-pub tested : (r : ℕ) (t : ℕ → Bool) (at : ℕ) (bs : List ℕ) → judgeAt (four r t) at bs ≡ after (judgeAt (four 0 any) at bs) (λ v e. cond (t v) (Whole v e) (Bad r))
+pub tested : (r : ℕ) (t : ℕ → Bool) (at : ℕ) (bs : List ℕ)
+    → judgeAt (four r t) at bs ≡ after (judgeAt (four 0 any) at bs) (λ v e. cond (t v) (Whole v e) (Bad r))
 unfolding judge
 tested r t at bs = go (decLe (at + 4) (length bs))
   where
     go : Dec (at + 4 ≤ length bs) → judgeAt (four r t) at bs ≡ after (judgeAt (four 0 any) at bs) (λ v e. cond (t v) (Whole v e) (Bad r))
-    go (yes l) = word-step r t whole at bs l ∙ ap (λ (j : Judgement). after j (λ v e. cond (t v) (Whole v e) (Bad r))) (four-whole 0 any at bs l refl)
-    go (no n) = word-ends r t whole at bs (omega arith) ∙ ap (λ (j : Judgement). after j (λ v e. cond (t v) (Whole v e) (Bad r))) (four-waits 0 any at bs (omega arith))
+    go (yes l) =
+        word-step r t whole at bs l ∙ ap (λ (j : Judgement). after j (λ v e. cond (t v) (Whole v e) (Bad r)))
+        (four-whole 0 any at bs l refl)
+    go (no n) =
+        word-ends r t whole at bs (omega arith)
+        ∙ ap (λ (j : Judgement). after j (λ v e. cond (t v) (Whole v e) (Bad r))) (four-waits 0 any at bs (omega arith))
 
 -- the field's bytes are not there
-pub unread : (r : ℕ) (t : ℕ → Bool) (at : ℕ) (bs : List ℕ) {j : Judgement} → j ≡ judgeAt (four 0 any) at bs → Halted j → j ≡ judgeAt (four r t) at bs
-unread r t at bs {j} a o = sym (tested r t at bs ∙ ap (λ (j : Judgement). after j (λ v e. cond (t v) (Whole v e) (Bad r))) (sym a) ∙ halted j (λ v e. cond (t v) (Whole v e) (Bad r)) o)
+pub unread : (r : ℕ) (t : ℕ → Bool) (at : ℕ) (bs : List ℕ) {j : Judgement} → j ≡ judgeAt (four 0 any) at bs → Halted j
+    → j ≡ judgeAt (four r t) at bs
+unread r t at bs {j} a o =
+    sym (tested r t at bs ∙ ap (λ (j : Judgement). after j (λ v e. cond (t v) (Whole v e) (Bad r))) (sym a)
+    ∙ halted j (λ v e. cond (t v) (Whole v e) (Bad r)) o)
 
-module _ (r : ℕ) (t : ℕ → Bool) (at : ℕ) (bs : List ℕ) {j : Judgement} {v e : ℕ} (a : j ≡ judgeAt (four 0 any) at bs) (b : j ≡ Whole v e) where
+module _ (r : ℕ) (t : ℕ → Bool) (at : ℕ) (bs : List ℕ) {j : Judgement} {v e : ℕ} (a : j ≡ judgeAt (four 0 any) at bs)
+    (b : j ≡ Whole v e) where
   read-then : judgeAt (four r t) at bs ≡ cond (t v) (Whole v e) (Bad r)
   read-then = tested r t at bs ∙ ap (λ (j : Judgement). after j (λ v e. cond (t v) (Whole v e) (Bad r))) (sym a ∙ b)
 
@@ -235,7 +258,8 @@ frees-whole n at bs h = free-whole (4 * n) at bs h ∙ sym (frees-free n at (dro
 
 module _ (r : ℕ) (ms : List ℕ) (i at : ℕ) (bs : List ℕ) where
   -- the next byte is as given
-  pub marker-hit : i < length ms → at < length bs → getD bs at 0 ≡ getD ms i 0 → judgeAt (marker r (drop i ms)) at bs ≡ judgeAt (marker r (drop (i + 1) ms)) (at + 1) bs
+  pub marker-hit : i < length ms → at < length bs → getD bs at 0 ≡ getD ms i 0
+      → judgeAt (marker r (drop i ms)) at bs ≡ judgeAt (marker r (drop (i + 1) ms)) (at + 1) bs
   unfolding judge marker
   marker-hit h l e = rw (drop-one ms i h, drop-one bs at l, eq-eqb (getD bs at 0) (getD ms i 0) e)
 
@@ -261,7 +285,8 @@ pub seq-inverse : (p : Form) (h : ℕ → Form) (at : ℕ) (bs : List ℕ) (v e 
     → (u : ℕ) × (d : ℕ) × (judgeAt p at bs ≡ Whole u d) × (judgeAt (h u) d bs ≡ Whole v e)
 seq-inverse p h at bs v e w = go (judgeAt p at bs) refl (sym (seq p h at bs) ∙ w)
   where
-    go : (j : Judgement) → judgeAt p at bs ≡ j → after j (λ v e. judgeAt (h v) e bs) ≡ Whole v e → (u : ℕ) × (d : ℕ) × (judgeAt p at bs ≡ Whole u d) × (judgeAt (h u) d bs ≡ Whole v e)
+    go : (j : Judgement) → judgeAt p at bs ≡ j → after j (λ v e. judgeAt (h v) e bs) ≡ Whole v e
+        → (u : ℕ) × (d : ℕ) × (judgeAt p at bs ≡ Whole u d) × (judgeAt (h u) d bs ≡ Whole v e)
     go (Whole u d) a b = (u, d, a, b)
     go (Bad r) a b = let z : _≡_ {A = ℕ} 0 1 = cc in absurd (omega arith)
     go Waiting a b = let z : _≡_ {A = ℕ} 0 1 = cc in absurd (omega arith)
@@ -272,7 +297,8 @@ pub four-inverse : (r : ℕ) (t : ℕ → Bool) (at : ℕ) (bs : List ℕ) (v e 
 unfolding judge
 four-inverse r t at bs v e w = go (decLe (at + 4) (length bs))
   where
-    passed : (u : Bool) → t (littleAt 4 at bs) ≡ u → cond u (Whole (littleAt 4 at bs) (at + 4)) (Bad r) ≡ Whole v e → (v ≡ littleAt 4 at bs) × (e ≡ at + 4) × (t v ≡ true)
+    passed : (u : Bool) → t (littleAt 4 at bs) ≡ u → cond u (Whole (littleAt 4 at bs) (at + 4)) (Bad r) ≡ Whole v e
+        → (v ≡ littleAt 4 at bs) × (e ≡ at + 4) × (t v ≡ true)
     passed true a b = let x : v ≡ littleAt 4 at bs = cc in (x, cc, ap t x ∙ a)
     passed false a b = let z : _≡_ {A = ℕ} 0 1 = cc in absurd (omega arith)
 
@@ -281,7 +307,8 @@ four-inverse r t at bs v e w = go (decLe (at + 4) (length bs))
     go (no n) = let h : Waiting ≡ Whole v e = four-waits r t at bs (omega arith) ∙ w in let z : _≡_ {A = ℕ} 0 1 = cc in absurd (omega arith)
 
 -- n free bytes: they are there, unless n is 0
-pub free-inverse : (n at : ℕ) (bs : List ℕ) (v e : ℕ) → judgeAt (free n) at bs ≡ Whole v e → (v ≡ 0) × (e ≡ at + n) × (at ≤ length bs → at + n ≤ length bs)
+pub free-inverse : (n at : ℕ) (bs : List ℕ) (v e : ℕ) → judgeAt (free n) at bs ≡ Whole v e
+    → (v ≡ 0) × (e ≡ at + n) × (at ≤ length bs → at + n ≤ length bs)
 unfolding judge free
 free-inverse zero at bs v e w = (cc, omega (arith, same), λ h. omega arith)
   where
@@ -291,13 +318,16 @@ free-inverse (suc n) at bs v e w = go (decLe (at + suc n) (length bs))
   where
     go : Dec (at + suc n ≤ length bs) → (v ≡ 0) × (e ≡ at + suc n) × (at ≤ length bs → at + suc n ≤ length bs)
     go (yes l) = let h : Whole 0 (at + suc n) ≡ Whole v e = free-whole (suc n) at bs l ∙ w in (cc, cc, λ _. l)
-    go (no m) = let h : Waiting ≡ Whole v e = free-waits (suc n) at bs (omega arith) (omega arith) ∙ w in let z : _≡_ {A = ℕ} 0 1 = cc in absurd (omega arith)
+    go (no m) = let h : Waiting ≡ Whole v e = free-waits (suc n) at bs (omega arith) (omega arith) ∙ w in let z : _≡_ {A = ℕ} 0 1 = cc in
+        absurd (omega arith)
 
 -- n free four-byte fields: they are there, unless n is 0
-pub frees-inverse : (n at : ℕ) (bs : List ℕ) (v e : ℕ) → judgeAt (frees n) at bs ≡ Whole v e → (v ≡ 0) × (e ≡ at + 4 * n) × (at ≤ length bs → at + 4 * n ≤ length bs)
+pub frees-inverse : (n at : ℕ) (bs : List ℕ) (v e : ℕ) → judgeAt (frees n) at bs ≡ Whole v e
+    → (v ≡ 0) × (e ≡ at + 4 * n) × (at ≤ length bs → at + 4 * n ≤ length bs)
 frees-inverse n at bs v e w = free-inverse (4 * n) at bs v e (sym (frees-free n at (drop at bs)) ∙ w)
 
-marker-read : (r : ℕ) (ms : List ℕ) (at : ℕ) (xs : List ℕ) (v e : ℕ) → judge (marker r ms) at xs ≡ Whole v e → (v ≡ 0) × (e ≡ at + length ms) × (take (length ms) xs ≡ ms) × (length ms ≤ length xs)
+marker-read : (r : ℕ) (ms : List ℕ) (at : ℕ) (xs : List ℕ) (v e : ℕ) → judge (marker r ms) at xs ≡ Whole v e
+    → (v ≡ 0) × (e ≡ at + length ms) × (take (length ms) xs ≡ ms) × (length ms ≤ length xs)
 unfolding judge marker
 marker-read r [] at xs v e w = (cc, omega (arith, same), refl, omega arith)
   where
@@ -307,7 +337,8 @@ marker-read r (m ∷ ms) at [] v e w = let z : _≡_ {A = ℕ} 0 1 = cc in absur
 marker-read r (m ∷ ms) at (b ∷ xs) v e w = go (eqb b m) refl w (marker-read r ms (at + 1) xs v e)
   where
     go : (u : Bool) → eqb b m ≡ u → cond u (judge (marker r ms) (at + 1) xs) (Bad r) ≡ Whole v e
-        → (judge (marker r ms) (at + 1) xs ≡ Whole v e → (v ≡ 0) × (e ≡ at + 1 + length ms) × (take (length ms) xs ≡ ms) × (length ms ≤ length xs))
+        → (judge (marker r ms) (at + 1) xs ≡ Whole v e
+        → (v ≡ 0) × (e ≡ at + 1 + length ms) × (take (length ms) xs ≡ ms) × (length ms ≤ length xs))
         → (v ≡ 0) × (e ≡ at + suc (length ms)) × (b ∷ take (length ms) xs ≡ m ∷ ms) × (suc (length ms) ≤ suc (length xs))
     go true a j s = let g = s j in let x = eqb-true b m a in let l = g .2 in (g .0, omega (arith, g .1), cc, omega (arith, g .3))
     go false a j s = let z : _≡_ {A = ℕ} 0 1 = cc in absurd (omega arith)
@@ -324,10 +355,12 @@ marker-met r (m ∷ ms) at [] h = let z : _≡_ {A = ℕ} 0 1 = cc in absurd (om
 marker-met r (m ∷ ms) at (b ∷ xs) h = ap (Whole 0) (omega arith) ∙ marker-met r ms (at + 1) xs (cc) ∙ rw (eq-eqb b m (cc))
 
 -- the given bytes, where they are there
-pub marker-whole : (r : ℕ) (ms : List ℕ) (at : ℕ) (bs : List ℕ) → take (length ms) (drop at bs) ≡ ms → Whole 0 (at + length ms) ≡ judgeAt (marker r ms) at bs
+pub marker-whole : (r : ℕ) (ms : List ℕ) (at : ℕ) (bs : List ℕ) → take (length ms) (drop at bs) ≡ ms
+    → Whole 0 (at + length ms) ≡ judgeAt (marker r ms) at bs
 marker-whole r ms at bs h = marker-met r ms at (drop at bs) h
 
-marker-missed : (r : ℕ) (ms : List ℕ) (at : ℕ) (xs : List ℕ) → length ms ≤ length xs → (take (length ms) xs ≡ ms → ⊥) → Bad r ≡ judge (marker r ms) at xs
+marker-missed : (r : ℕ) (ms : List ℕ) (at : ℕ) (xs : List ℕ) → length ms ≤ length xs → (take (length ms) xs ≡ ms → ⊥)
+    → Bad r ≡ judge (marker r ms) at xs
 unfolding judge marker
 marker-missed r [] at xs h n = absurd (n refl)
 marker-missed r (m ∷ ms) at [] h n = absurd (omega arith)
@@ -336,12 +369,14 @@ marker-missed r (m ∷ ms) at (b ∷ xs) h n = go (eqb b m) refl (λ f. marker-m
     same : b ≡ m → take (length ms) xs ≡ ms → b ∷ take (length ms) xs ≡ m ∷ ms
     same x e = cc
 
-    go : (u : Bool) → eqb b m ≡ u → ((take (length ms) xs ≡ ms → ⊥) → Bad r ≡ judge (marker r ms) (at + 1) xs) → Bad r ≡ cond (eqb b m) (judge (marker r ms) (at + 1) xs) (Bad r)
+    go : (u : Bool) → eqb b m ≡ u → ((take (length ms) xs ≡ ms → ⊥) → Bad r ≡ judge (marker r ms) (at + 1) xs)
+        → Bad r ≡ cond (eqb b m) (judge (marker r ms) (at + 1) xs) (Bad r)
     go true a s = s (λ e. n (same (eqb-true b m a) e)) ∙ rw a
     go false a s = rw a
 
 -- other bytes than the given ones, as many
-pub marker-other : (r : ℕ) (ms : List ℕ) (at : ℕ) (bs : List ℕ) → length ms ≤ length (drop at bs) → (take (length ms) (drop at bs) ≡ ms → ⊥) → Bad r ≡ judgeAt (marker r ms) at bs
+pub marker-other : (r : ℕ) (ms : List ℕ) (at : ℕ) (bs : List ℕ) → length ms ≤ length (drop at bs) → (take (length ms) (drop at bs) ≡ ms → ⊥)
+    → Bad r ≡ judgeAt (marker r ms) at bs
 marker-other r ms at bs h n = marker-missed r ms at (drop at bs) h n
 
 -- -- The judgement and the offset it starts from
@@ -361,11 +396,15 @@ pub judge-moved : (p : Form) (d at : ℕ) (xs : List ℕ) → judge p (d + at) x
 unfolding judge
 judge-moved (whole v) d at xs = refl
 judge-moved (byte r t f) d at [] = refl
-judge-moved (byte r t f) d at (b ∷ xs) = moved-cond (t b) d r (judge (f b) (at + 1) xs) (judge (f b) (d + at + 1) xs) (ap (λ (i : ℕ). judge (f b) i xs) (omega arith) ∙ judge-moved (f b) d (at + 1) xs)
+judge-moved (byte r t f) d at (b ∷ xs) =
+    moved-cond (t b) d r (judge (f b) (at + 1) xs) (judge (f b) (d + at + 1) xs)
+    (ap (λ (i : ℕ). judge (f b) i xs) (omega arith) ∙ judge-moved (f b) d (at + 1) xs)
 judge-moved (word r t f) d at [] = refl
 judge-moved (word r t f) d at (a ∷ []) = refl
 judge-moved (word r t f) d at (a ∷ b ∷ []) = refl
 judge-moved (word r t f) d at (a ∷ b ∷ c ∷ []) = refl
 judge-moved (word r t f) d at (a ∷ b ∷ c ∷ e ∷ xs) =
-    moved-cond (t (fromLittle (a ∷ b ∷ c ∷ e ∷ []))) d r (judge (f (fromLittle (a ∷ b ∷ c ∷ e ∷ []))) (at + 4) xs) (judge (f (fromLittle (a ∷ b ∷ c ∷ e ∷ []))) (d + at + 4) xs)
-    (ap (λ (i : ℕ). judge (f (fromLittle (a ∷ b ∷ c ∷ e ∷ []))) i xs) (omega arith) ∙ judge-moved (f (fromLittle (a ∷ b ∷ c ∷ e ∷ []))) d (at + 4) xs)
+    moved-cond (t (fromLittle (a ∷ b ∷ c ∷ e ∷ []))) d r (judge (f (fromLittle (a ∷ b ∷ c ∷ e ∷ []))) (at + 4) xs)
+    (judge (f (fromLittle (a ∷ b ∷ c ∷ e ∷ []))) (d + at + 4) xs)
+    (ap (λ (i : ℕ). judge (f (fromLittle (a ∷ b ∷ c ∷ e ∷ []))) i xs) (omega arith)
+    ∙ judge-moved (f (fromLittle (a ∷ b ∷ c ∷ e ∷ []))) d (at + 4) xs)

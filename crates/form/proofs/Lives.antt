@@ -12,13 +12,9 @@ use Rattle.form.specs.Pieces.{any, one, four, marker, free, frees}
 
 -- -- Live
 
--- one byte with a test that some byte passes
-pub live-one : (r : ℕ) (t : ℕ → Bool) (h : ℕ → Form) (b : ℕ) → b < 2 ^ 8 → t b ≡ true → ((b : ℕ) → b < 2 ^ 8 → t b ≡ true → Live (h b)) → Live (one r t >>= h)
-unfolding Live _>>=_
-live-one r t h b s a l = ((b, s, a), l)
-
 -- a four-byte field with a test that some number passes
-pub live-four : (r : ℕ) (t : ℕ → Bool) (h : ℕ → Form) (v : ℕ) → v < 2 ^ 32 → t v ≡ true → ((v : ℕ) → v < 2 ^ 32 → t v ≡ true → Live (h v)) → Live (four r t >>= h)
+pub live-four : (r : ℕ) (t : ℕ → Bool) (h : ℕ → Form) (v : ℕ) → v < 2 ^ 32 → t v ≡ true → ((v : ℕ) → v < 2 ^ 32 → t v ≡ true → Live (h v))
+    → Live (four r t >>= h)
 unfolding Live _>>=_
 live-four r t h v s a l = ((v, s, a), l)
 
@@ -63,14 +59,3 @@ plain-outside (whole v) xs l i = i
 plain-outside (byte r t f) [] l i = i
 plain-outside (byte r t f) (b ∷ xs) l i = plain-outside (f b) xs (l b) (i .1)
 plain-outside (word r t f) xs l i = absurd l
-
--- -- Both
-
--- live, and without four-byte fields
-pub record Good (p : Form) : Type 0 where
-  pub live : Live p
-  pub plain : Plain p
-
--- a good piece, and then a good one
-pub good-then : (p : Form) (h : ℕ → Form) → Good p → ((v : ℕ) → Good (h v)) → Good (p >>= h)
-good-then p h g n = record { live = live-then p h (g .live) (λ v. n v .live); plain = plain-then p h (g .plain) (λ v. n v .plain) }

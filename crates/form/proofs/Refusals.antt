@@ -36,11 +36,13 @@ refuses-first p h at bs r w = seq p h at bs ∙ ap (λ (j : Judgement). after j 
 -- -- A four-byte field
 
 -- its bytes are there, and its number is refused
-pub four-refused : (r : ℕ) (t : ℕ → Bool) (at : ℕ) (bs : List ℕ) (q : ℕ) → judgeAt (four r t) at bs ≡ Bad q → (q ≡ r) × (at + 4 ≤ length bs) × (t (littleAt 4 at bs) ≡ false)
+pub four-refused : (r : ℕ) (t : ℕ → Bool) (at : ℕ) (bs : List ℕ) (q : ℕ) → judgeAt (four r t) at bs ≡ Bad q
+    → (q ≡ r) × (at + 4 ≤ length bs) × (t (littleAt 4 at bs) ≡ false)
 unfolding judge
 four-refused r t at bs q w = go (decLe (at + 4) (length bs))
   where
-    tested : (u : Bool) → t (littleAt 4 at bs) ≡ u → cond u (Whole (littleAt 4 at bs) (at + 4)) (Bad r) ≡ Bad q → (q ≡ r) × (t (littleAt 4 at bs) ≡ false)
+    tested : (u : Bool) → t (littleAt 4 at bs) ≡ u → cond u (Whole (littleAt 4 at bs) (at + 4)) (Bad r) ≡ Bad q
+        → (q ≡ r) × (t (littleAt 4 at bs) ≡ false)
     tested true a b = let z : _≡_ {A = ℕ} 0 1 = cc in absurd (omega arith)
     tested false a b = (cc, a)
 
@@ -49,7 +51,8 @@ four-refused r t at bs q w = go (decLe (at + 4) (length bs))
     go (no n) = let h : Waiting ≡ Bad q = four-waits r t at bs (omega arith) ∙ w in let z : _≡_ {A = ℕ} 0 1 = cc in absurd (omega arith)
 
 -- a number that is there and does not pass
-pub four-refuses : (r : ℕ) (t : ℕ → Bool) (at : ℕ) (bs : List ℕ) → at + 4 ≤ length bs → t (littleAt 4 at bs) ≡ false → judgeAt (four r t) at bs ≡ Bad r
+pub four-refuses : (r : ℕ) (t : ℕ → Bool) (at : ℕ) (bs : List ℕ) → at + 4 ≤ length bs → t (littleAt 4 at bs) ≡ false
+    → judgeAt (four r t) at bs ≡ Bad r
 unfolding judge
 four-refuses r t at bs h a = word-step r t whole at bs h ∙ rw a
 
@@ -77,21 +80,26 @@ marker-broken r [] at xs q w = let z : _≡_ {A = ℕ} 0 1 = cc in absurd (omega
 marker-broken r (m ∷ ms) at [] q w = let z : _≡_ {A = ℕ} 0 1 = cc in absurd (omega arith)
 marker-broken r (m ∷ ms) at (b ∷ xs) q w = go (eqb b m) refl w (marker-broken r ms (at + 1) xs q)
   where
-    go : (u : Bool) → eqb b m ≡ u → cond u (judge (marker r ms) (at + 1) xs) (Bad r) ≡ Bad q → (judge (marker r ms) (at + 1) xs ≡ Bad q → (q ≡ r) × Broken ms xs)
+    go : (u : Bool) → eqb b m ≡ u → cond u (judge (marker r ms) (at + 1) xs) (Bad r) ≡ Bad q
+        → (judge (marker r ms) (at + 1) xs ≡ Bad q → (q ≡ r) × Broken ms xs)
         → (q ≡ r) × Broken (m ∷ ms) (b ∷ xs)
-    go true a j s = let g = s j in let x = eqb-true b m a in let y = g .1 .3 in (g .0, (suc (g .1 .0), omega (arith, g .1 .1), omega (arith, g .1 .2), cc, g .1 .4))
+    go true a j s = let g = s j in let x = eqb-true b m a in let y = g .1 .3 in
+        (g .0, (suc (g .1 .0), omega (arith, g .1 .1), omega (arith, g .1 .2), cc, g .1 .4))
     go false a j s = (cc, (0, omega arith, omega arith, refl, eqb-false b m a))
 
-broken-marker : (r : ℕ) (ms : List ℕ) (at : ℕ) (xs : List ℕ) (i : ℕ) → i < length ms → i < length xs → take i xs ≡ take i ms → (getD xs i 0 ≡ getD ms i 0 → ⊥)
+broken-marker : (r : ℕ) (ms : List ℕ) (at : ℕ) (xs : List ℕ) (i : ℕ) → i < length ms → i < length xs → take i xs ≡ take i ms
+    → (getD xs i 0 ≡ getD ms i 0 → ⊥)
     → judge (marker r ms) at xs ≡ Bad r
 unfolding judge marker
 broken-marker r [] at xs i a b c d = absurd (omega arith)
 broken-marker r (m ∷ ms) at [] i a b c d = absurd (omega arith)
 broken-marker r (m ∷ ms) at (b ∷ xs) zero h l c d = rw (ne-eqb b m d)
-broken-marker r (m ∷ ms) at (b ∷ xs) (suc i) h l c d = rw (eq-eqb b m (cc)) (broken-marker r ms (at + 1) xs i (omega arith) (omega arith) (cc) d)
+broken-marker r (m ∷ ms) at (b ∷ xs) (suc i) h l c d =
+    rw (eq-eqb b m (cc)) (broken-marker r ms (at + 1) xs i (omega arith) (omega arith) (cc) d)
 
 -- the given bytes are refused exactly if one that is there is another, and those before it are as given
-pub marker-refused : (r : ℕ) (ms : List ℕ) (at : ℕ) (bs : List ℕ) (q : ℕ) → (judgeAt (marker r ms) at bs ≡ Bad q) ↔ ((q ≡ r) × Broken ms (drop at bs))
+pub marker-refused : (r : ℕ) (ms : List ℕ) (at : ℕ) (bs : List ℕ) (q : ℕ)
+    → (judgeAt (marker r ms) at bs ≡ Bad q) ↔ ((q ≡ r) × Broken ms (drop at bs))
 unfolding Broken
 marker-refused r ms at bs q = (
   marker-broken r ms at (drop at bs) q,

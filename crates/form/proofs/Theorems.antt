@@ -38,7 +38,8 @@ frame-judged (word r t f) k at [] ys h = absurd h
 frame-judged (word r t f) k at (a ∷ []) ys h = absurd h
 frame-judged (word r t f) k at (a ∷ b ∷ []) ys h = absurd h
 frame-judged (word r t f) k at (a ∷ b ∷ c ∷ []) ys h = absurd h
-frame-judged (word r t f) k at (a ∷ b ∷ c ∷ d ∷ xs) ys h = rw (h .0) (frame-judged (f (joined a b c d)) k (at + 4) xs ys (h .1) ∙ ap (Whole k) (omega arith))
+frame-judged (word r t f) k at (a ∷ b ∷ c ∷ d ∷ xs) ys h =
+    rw (h .0) (frame-judged (f (joined a b c d)) k (at + 4) xs ys (h .1) ∙ ap (Whole k) (omega arith))
 
 -- the frame that a whole judgement has read
 pub record Read (p : Form) (k at e : ℕ) (xs : List ℕ) : Type 0 where
@@ -54,8 +55,10 @@ whole-read (whole v) k at e xs h = let s : at ≡ e = cc in record { size = 0; e
 whole-read (byte r t f) k at e [] h = not-both refl h
 whole-read (byte r t f) k at e (b ∷ xs) h = go (t b) refl h (whole-read (f b) k (at + 1) e xs)
   where
-    go : (u : Bool) → t b ≡ u → cond u (judge (f b) (at + 1) xs) (Bad r) ≡ Whole k e → (judge (f b) (at + 1) xs ≡ Whole k e → Read (f b) k (at + 1) e xs) → Read (byte r t f) k at e (b ∷ xs)
-    go true a j s = let g = s j in record { size = suc (g .size); end = omega (arith, g .end); within = omega (arith, g .within); frame = (a, g .frame) }
+    go : (u : Bool) → t b ≡ u → cond u (judge (f b) (at + 1) xs) (Bad r) ≡ Whole k e
+        → (judge (f b) (at + 1) xs ≡ Whole k e → Read (f b) k (at + 1) e xs) → Read (byte r t f) k at e (b ∷ xs)
+    go true a j s = let g = s j in
+        record { size = suc (g .size); end = omega (arith, g .end); within = omega (arith, g .within); frame = (a, g .frame) }
     go false a j s = bad-whole refl j
 whole-read (word r t f) k at e [] h = not-both refl h
 whole-read (word r t f) k at e (a ∷ []) h = not-both refl h
@@ -64,8 +67,15 @@ whole-read (word r t f) k at e (a ∷ b ∷ c ∷ []) h = not-both refl h
 whole-read (word r t f) k at e (a ∷ b ∷ c ∷ d ∷ xs) h = go (t (joined a b c d)) refl h (whole-read (f (joined a b c d)) k (at + 4) e xs)
   where
     go : (u : Bool) → t (joined a b c d) ≡ u → cond u (judge (f (joined a b c d)) (at + 4) xs) (Bad r) ≡ Whole k e
-        → (judge (f (joined a b c d)) (at + 4) xs ≡ Whole k e → Read (f (joined a b c d)) k (at + 4) e xs) → Read (word r t f) k at e (a ∷ b ∷ c ∷ d ∷ xs)
-    go true i j s = let g = s j in record { size = suc (suc (suc (suc (g .size)))); end = omega (arith, g .end); within = omega (arith, g .within); frame = (i, g .frame) }
+        → (judge (f (joined a b c d)) (at + 4) xs ≡ Whole k e → Read (f (joined a b c d)) k (at + 4) e xs)
+        → Read (word r t f) k at e (a ∷ b ∷ c ∷ d ∷ xs)
+    go true i j s = let g = s j in
+        record {
+          size = suc (suc (suc (suc (g .size))));
+          end = omega (arith, g .end);
+          within = omega (arith, g .within);
+          frame = (i, g .frame);
+        }
     go false i j s = bad-whole refl j
 
 -- a frame that stands is judged whole
@@ -122,7 +132,8 @@ empty-waits (word r t f) at b = refl
 
 -- -- Kept under further bytes
 
-kept-cond : (t : Bool) (r : ℕ) (x y : Judgement) → ((x ≡ Waiting → ⊥) → y ≡ x) → (cond t x (Bad r) ≡ Waiting → ⊥) → cond t y (Bad r) ≡ cond t x (Bad r)
+kept-cond : (t : Bool) (r : ℕ) (x y : Judgement) → ((x ≡ Waiting → ⊥) → y ≡ x) → (cond t x (Bad r) ≡ Waiting → ⊥)
+    → cond t y (Bad r) ≡ cond t x (Bad r)
 kept-cond true r x y s n = s n
 kept-cond false r x y s n = refl
 
@@ -131,13 +142,15 @@ pub judgement-kept : (p : Form) (at : ℕ) (xs ys : List ℕ) → (judge p at xs
 unfolding judge
 judgement-kept (whole v) at xs ys n = refl
 judgement-kept (byte r t f) at [] ys n = absurd (n refl)
-judgement-kept (byte r t f) at (b ∷ xs) ys n = kept-cond (t b) r (judge (f b) (at + 1) xs) (judge (f b) (at + 1) (xs ++ ys)) (judgement-kept (f b) (at + 1) xs ys) n
+judgement-kept (byte r t f) at (b ∷ xs) ys n =
+    kept-cond (t b) r (judge (f b) (at + 1) xs) (judge (f b) (at + 1) (xs ++ ys)) (judgement-kept (f b) (at + 1) xs ys) n
 judgement-kept (word r t f) at [] ys n = absurd (n refl)
 judgement-kept (word r t f) at (a ∷ []) ys n = absurd (n refl)
 judgement-kept (word r t f) at (a ∷ b ∷ []) ys n = absurd (n refl)
 judgement-kept (word r t f) at (a ∷ b ∷ c ∷ []) ys n = absurd (n refl)
 judgement-kept (word r t f) at (a ∷ b ∷ c ∷ d ∷ xs) ys n =
-    kept-cond (t (joined a b c d)) r (judge (f (joined a b c d)) (at + 4) xs) (judge (f (joined a b c d)) (at + 4) (xs ++ ys)) (judgement-kept (f (joined a b c d)) (at + 4) xs ys) n
+    kept-cond (t (joined a b c d)) r (judge (f (joined a b c d)) (at + 4) xs) (judge (f (joined a b c d)) (at + 4) (xs ++ ys))
+    (judgement-kept (f (joined a b c d)) (at + 4) xs ys) n
 
 -- -- No further than the frame, or the refused byte
 
@@ -160,7 +173,8 @@ bad-looks-no-further (whole v) at q xs h = bad-whole h refl
 bad-looks-no-further (byte r t f) at q [] h = bad-waits h refl
 bad-looks-no-further (byte r t f) at q (b ∷ xs) h = go (t b) refl h (bad-looks-no-further (f b) (at + 1) q xs)
   where
-    sooner : (n : ℕ) → t b ≡ true → ((j : ℕ) → j < n → judge (f b) (at + 1) (take j xs) ≡ Waiting) → (j : ℕ) → j < suc n → judge (byte r t f) at (take j (b ∷ xs)) ≡ Waiting
+    sooner : (n : ℕ) → t b ≡ true → ((j : ℕ) → j < n → judge (f b) (at + 1) (take j xs) ≡ Waiting) → (j : ℕ) → j < suc n
+        → judge (byte r t f) at (take j (b ∷ xs)) ≡ Waiting
     sooner n a s zero l = refl
     sooner n a s (suc j) l = rw a (s j (omega arith))
 
@@ -168,16 +182,25 @@ bad-looks-no-further (byte r t f) at q (b ∷ xs) h = go (t b) refl h (bad-looks
     only zero l = refl
     only (suc j) l = absurd (omega arith)
 
-    go : (u : Bool) → t b ≡ u → cond u (judge (f b) (at + 1) xs) (Bad r) ≡ Bad q → (judge (f b) (at + 1) xs ≡ Bad q → Refusal (f b) (at + 1) q xs) → Refusal (byte r t f) at q (b ∷ xs)
-    go true a j s = let g = s j in record { size = suc (g .size); within = omega (arith, g .within); settles = λ more. rw a (g .settles more); before = sooner (g .size) a (g .before) }
+    go : (u : Bool) → t b ≡ u → cond u (judge (f b) (at + 1) xs) (Bad r) ≡ Bad q
+        → (judge (f b) (at + 1) xs ≡ Bad q → Refusal (f b) (at + 1) q xs) → Refusal (byte r t f) at q (b ∷ xs)
+    go true a j s = let g = s j in
+        record {
+          size = suc (g .size);
+          within = omega (arith, g .within);
+          settles = λ more. rw a (g .settles more);
+          before = sooner (g .size) a (g .before);
+        }
     go false a j s = record { size = 1; within = omega arith; settles = λ more. rw a j; before = only }
 bad-looks-no-further (word r t f) at q [] h = bad-waits h refl
 bad-looks-no-further (word r t f) at q (a ∷ []) h = bad-waits h refl
 bad-looks-no-further (word r t f) at q (a ∷ b ∷ []) h = bad-waits h refl
 bad-looks-no-further (word r t f) at q (a ∷ b ∷ c ∷ []) h = bad-waits h refl
-bad-looks-no-further (word r t f) at q (a ∷ b ∷ c ∷ d ∷ xs) h = go (t (joined a b c d)) refl h (bad-looks-no-further (f (joined a b c d)) (at + 4) q xs)
+bad-looks-no-further (word r t f) at q (a ∷ b ∷ c ∷ d ∷ xs) h =
+    go (t (joined a b c d)) refl h (bad-looks-no-further (f (joined a b c d)) (at + 4) q xs)
   where
-    sooner : (n : ℕ) → t (joined a b c d) ≡ true → ((j : ℕ) → j < n → judge (f (joined a b c d)) (at + 4) (take j xs) ≡ Waiting) → (j : ℕ) → j < suc (suc (suc (suc n)))
+    sooner : (n : ℕ) → t (joined a b c d) ≡ true → ((j : ℕ) → j < n → judge (f (joined a b c d)) (at + 4) (take j xs) ≡ Waiting) → (j : ℕ)
+        → j < suc (suc (suc (suc n)))
         → judge (word r t f) at (take j (a ∷ b ∷ c ∷ d ∷ xs)) ≡ Waiting
     sooner n i s zero l = refl
     sooner n i s (suc zero) l = refl
@@ -193,8 +216,15 @@ bad-looks-no-further (word r t f) at q (a ∷ b ∷ c ∷ d ∷ xs) h = go (t (j
     only (suc (suc (suc (suc j)))) l = absurd (omega arith)
 
     go : (u : Bool) → t (joined a b c d) ≡ u → cond u (judge (f (joined a b c d)) (at + 4) xs) (Bad r) ≡ Bad q
-        → (judge (f (joined a b c d)) (at + 4) xs ≡ Bad q → Refusal (f (joined a b c d)) (at + 4) q xs) → Refusal (word r t f) at q (a ∷ b ∷ c ∷ d ∷ xs)
-    go true i j s = let g = s j in record { size = suc (suc (suc (suc (g .size)))); within = omega (arith, g .within); settles = λ more. rw i (g .settles more); before = sooner (g .size) i (g .before) }
+        → (judge (f (joined a b c d)) (at + 4) xs ≡ Bad q → Refusal (f (joined a b c d)) (at + 4) q xs)
+        → Refusal (word r t f) at q (a ∷ b ∷ c ∷ d ∷ xs)
+    go true i j s = let g = s j in
+        record {
+          size = suc (suc (suc (suc (g .size))));
+          within = omega (arith, g .within);
+          settles = λ more. rw i (g .settles more);
+          before = sooner (g .size) i (g .before);
+        }
     go false i j s = record { size = 4; within = omega arith; settles = λ more. rw i j; before = only }
 
 -- fewer bytes than a whole frame has wait
@@ -208,7 +238,8 @@ whole-waits-before p k n bs h j l = go (judge p 0 (take j bs)) refl
     short = simp length-take (omega (arith, min-le-left j (length bs)))
 
     go : (w : Judgement) → judge p 0 (take j bs) ≡ w → judge p 0 (take j bs) ≡ Waiting
-    go (Whole k′ n′) e = let g : judge p 0 (take j bs) ≡ Whole k n = sym (same (λ z. not-both z e)) ∙ h in absurd (omega (arith, whole-fits p k n (take j bs) g, short))
+    go (Whole k′ n′) e = let g : judge p 0 (take j bs) ≡ Whole k n = sym (same (λ z. not-both z e)) ∙ h in
+        absurd (omega (arith, whole-fits p k n (take j bs) g, short))
     go (Bad r) e = bad-whole (same (λ z. bad-waits e z) ∙ e) h
     go Waiting e = e
 
@@ -230,7 +261,8 @@ looks-no-further p bs d = go (judge p 0 bs) refl
       settles = λ more. whole-looks-no-further p k n bs more e ∙ sym e;
       before = whole-waits-before p k n bs e;
     }
-    go (Bad r) e = let g = bad-looks-no-further p 0 r bs e in record { size = g .size; within = g .within; settles = λ more. g .settles more ∙ sym e; before = g .before }
+    go (Bad r) e = let g = bad-looks-no-further p 0 r bs e in
+        record { size = g .size; within = g .within; settles = λ more. g .settles more ∙ sym e; before = g .before }
     go Waiting e = absurd (d e)
 
 -- -- Waiting exactly if it can be completed
@@ -279,7 +311,8 @@ live-frame (word r t f) l = let v = l .0 .0 in let s = l .0 .1 in let g = live-f
     }
   where
     framed : (v : ℕ) → v < 2 ^ 32 → t v ≡ true → (k : ℕ) (more : List ℕ) → Frame (f v) k more
-        → (t (joined (v % 256) (v / 256 % 256) (v / 65536 % 256) (v / 16777216)) ≡ true) × Frame (f (joined (v % 256) (v / 256 % 256) (v / 65536 % 256) (v / 16777216))) k more
+        → (t (joined (v % 256) (v / 256 % 256) (v / 65536 % 256) (v / 16777216)) ≡ true)
+        × Frame (f (joined (v % 256) (v / 256 % 256) (v / 65536 % 256) (v / 16777216))) k more
     framed v s a k more g = rw (joined-of v s) (a, g)
 
 -- bytes of a live form that wait, and not inside a four-byte field, can be completed
@@ -287,9 +320,11 @@ waiting-completes : (p : Form) (at : ℕ) (xs : List ℕ) → Live p → Bytes x
 unfolding judge Inside Live Frame Below
 waiting-completes (whole v) at xs l s o h = not-both h refl
 waiting-completes (byte r t f) at [] l s o h = live-frame (byte r t f) l
-waiting-completes (byte r t f) at (b ∷ xs) l s o h = go (t b) refl h (λ a. waiting-completes (f b) (at + 1) xs (l .1 b (s .0) a) (s .1) (λ i. o (a, i)))
+waiting-completes (byte r t f) at (b ∷ xs) l s o h =
+    go (t b) refl h (λ a. waiting-completes (f b) (at + 1) xs (l .1 b (s .0) a) (s .1) (λ i. o (a, i)))
   where
-    go : (u : Bool) → t b ≡ u → cond u (judge (f b) (at + 1) xs) (Bad r) ≡ Waiting → (t b ≡ true → judge (f b) (at + 1) xs ≡ Waiting → Completion (f b) xs) → Completion (byte r t f) (b ∷ xs)
+    go : (u : Bool) → t b ≡ u → cond u (judge (f b) (at + 1) xs) (Bad r) ≡ Waiting
+        → (t b ≡ true → judge (f b) (at + 1) xs ≡ Waiting → Completion (f b) xs) → Completion (byte r t f) (b ∷ xs)
     go true a j c = let g = c a j in record { more = g .more; more-bytes = g .more-bytes; kind = g .kind; frame = (a, g .frame) }
     go false a j c = bad-waits refl j
 waiting-completes (word r t f) at [] l s o h = live-frame (word r t f) l
@@ -298,10 +333,12 @@ waiting-completes (word r t f) at (a ∷ b ∷ []) l s o h = absurd (o tt)
 waiting-completes (word r t f) at (a ∷ b ∷ c ∷ []) l s o h = absurd (o tt)
 waiting-completes (word r t f) at (a ∷ b ∷ c ∷ d ∷ xs) l s o h =
     go (t (joined a b c d)) refl h
-    (λ e. waiting-completes (f (joined a b c d)) (at + 4) xs (l .1 (joined a b c d) (joined-small a b c d (s .0) (s .1 .0) (s .1 .1 .0) (s .1 .1 .1 .0)) e) (s .1 .1 .1 .1) (λ i. o (e, i)))
+    (λ e. waiting-completes (f (joined a b c d)) (at + 4) xs
+    (l .1 (joined a b c d) (joined-small a b c d (s .0) (s .1 .0) (s .1 .1 .0) (s .1 .1 .1 .0)) e) (s .1 .1 .1 .1) (λ i. o (e, i)))
   where
     go : (u : Bool) → t (joined a b c d) ≡ u → cond u (judge (f (joined a b c d)) (at + 4) xs) (Bad r) ≡ Waiting
-        → (t (joined a b c d) ≡ true → judge (f (joined a b c d)) (at + 4) xs ≡ Waiting → Completion (f (joined a b c d)) xs) → Completion (word r t f) (a ∷ b ∷ c ∷ d ∷ xs)
+        → (t (joined a b c d) ≡ true → judge (f (joined a b c d)) (at + 4) xs ≡ Waiting → Completion (f (joined a b c d)) xs)
+        → Completion (word r t f) (a ∷ b ∷ c ∷ d ∷ xs)
     go true e j c = let g = c e j in record { more = g .more; more-bytes = g .more-bytes; kind = g .kind; frame = (e, g .frame) }
     go false e j c = bad-waits refl j
 

@@ -36,7 +36,8 @@ joined a b c d = fromLittle (a ∷ b ∷ c ∷ d ∷ [])
 
 -- -- The judgement
 
--- checks run in byte order and the first that fails gives the reason; a four-byte field is judged when its fourth byte is there (paper 01, "Judging a place").
+-- checks run in byte order and the first that fails gives the reason; a four-byte field is judged when its fourth byte is there (paper 01,
+-- "Judging a place").
 -- at is the offset of the first of the bytes
 unfoldable pub judge : Form → ℕ → List ℕ → Judgement
 judge (whole k) at bs = Whole k at
@@ -84,7 +85,8 @@ pub record Completable (p : Form) (bs : List ℕ) : Type 0 where
   pub more-bytes : Bytes more
   pub completed : SomeStands p (bs ++ more)
 
--- the bytes "end inside" a four-byte field: every check before it holds and one to three of its bytes are there (paper 01, "Judging a place")
+-- the bytes "end inside" a four-byte field: every check before it holds and one to three of its bytes are there (paper 01, "Judging a
+-- place")
 unfoldable pub Inside : Form → List ℕ → Type 0
 Inside (whole v) bs = ⊥
 Inside (byte r t f) [] = ⊥
@@ -95,7 +97,8 @@ Inside (word r t f) (a ∷ b ∷ []) = Unit {0}
 Inside (word r t f) (a ∷ b ∷ c ∷ []) = Unit {0}
 Inside (word r t f) (a ∷ b ∷ c ∷ d ∷ bs) = (t (joined a b c d) ≡ true) × Inside (f (joined a b c d)) bs
 
--- at every node some byte (or number) is taken, and whatever is taken leaves a live rest: no check before the last one settles that nothing can follow
+-- at every node some byte (or number) is taken, and whatever is taken leaves a live rest: no check before the last one settles that nothing
+-- can follow
 unfoldable pub Live : Form → Type 0
 Live (whole v) = Unit {0}
 Live (byte r t f) = ((b : ℕ) × (b < 2 ^ 8) × (t b ≡ true)) × ((b : ℕ) → b < 2 ^ 8 → t b ≡ true → Live (f b))

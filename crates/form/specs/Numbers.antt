@@ -1,4 +1,5 @@
--- A judgement in numbers, case by case, and the promise of a function that judges (paper 01, "Judging a place" and "Which language form to use").
+-- A judgement in numbers, case by case, and the promise of a function that judges (paper 01, "Judging a place" and "Which language form to
+-- use").
 use mathlib.Core.Path.{_≡_}
 use mathlib.Core.List.{List}
 use Prim.Native.Nat.{ℕ}

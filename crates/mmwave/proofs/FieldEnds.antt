@@ -69,7 +69,8 @@ module _ (bs : List ℕ) where
   at-field (suc (suc (suc (suc zero)))) h b c = in-free 2 (omega arith) (b .starts) (at-total 24 (omega arith) b) c
   at-field (suc (suc (suc (suc (suc zero))))) h b c = in-objects (b .starts) (at-total 28 (omega arith) b) c
   at-field (suc (suc (suc (suc (suc (suc zero)))))) h b c = in-count (b .starts) (at-total 32 (omega arith) b) c
-  at-field (suc (suc (suc (suc (suc (suc (suc zero))))))) h b c = let t = at-total 36 (omega arith) b in in-subframe (b .starts) t (count-exactly N L K t .1 (b .count (omega arith))) c
+  at-field (suc (suc (suc (suc (suc (suc (suc zero))))))) h b c = let t = at-total 36 (omega arith) b in
+      in-subframe (b .starts) t (count-exactly N L K t .1 (b .count (omega arith))) c
   at-field (suc (suc (suc (suc (suc (suc (suc (suc i)))))))) h b c = absurd (omega arith)
 
   back : EndsInField bs → EndsInside mmWave bs

@@ -6,6 +6,7 @@ use Prim.Native.Nat.{ℕ, zero, suc, _+_, _-_, _*_, _<_, _≤_}
 use native.Mathlib.Omega.{arith}
 use lib.ListN.{length}
 use Rattle.digits.specs.LittleEndian.{littleAt}
+use Rattle.digits.proofs.Choices.{and-right}
 use Rattle.form.specs.declared.Judgement.{Judgement}
 use Rattle.form.specs.declared.Judgement.the-variants.{Whole, Bad, Waiting}
 use Rattle.form.specs.Form.{Form, whole, _>>=_, _>>_, judge, judgeAt}
@@ -18,48 +19,33 @@ use Rattle.mmwave.specs.Packet.{entry, last, records}
 -- -- The tests
 
 -- the test of a type, by its rule
-pub type-test : (P : Profile) (n k room type : ℕ) {rule : Rule} {b : Bool} → rule ≡ P .rule type n → b ≡ P .possible k room rule → b ≡ typeOk P n k room type
+pub type-test : (P : Profile) (n k room type : ℕ) {rule : Rule} {b : Bool} → rule ≡ P .rule type n → b ≡ P .possible k room rule
+    → b ≡ typeOk P n k room type
 unfolding typeOk
 type-test P n k room type e h = h ∙ ap (P .possible k room) e
 
-and-of : (x y b : Bool) → x ≡ true → b ≡ y → b ≡ (x && y)
-and-of true y b e h = h
-and-of false y b e h = let z : _≡_ {A = Bool} true false = cc in h ∙ absurd (no-path z)
-  where
-    no-path : true ≡ false → ⊥
-    no-path z = let y : _≡_ {A = ℕ} 0 1 = cc in omega arith
-
-and-not : (x y : Bool) → x ≡ false → false ≡ (x && y)
-and-not true y e = sym e ∙ absurd (no-path e)
-  where
-    no-path : true ≡ false → ⊥
-    no-path z = let y : _≡_ {A = ℕ} 0 1 = cc in omega arith
-and-not false y e = refl
-
--- both tests of a conjunction passed
-pub and-both : (x y : Bool) → (x && y) ≡ true → (x ≡ true) × (y ≡ true)
-and-both true y e = (refl, e)
-and-both false y e = let z : _≡_ {A = ℕ} 0 1 = cc in absurd (omega arith)
-
 -- a legal length is tested for its fit
-pub length-both : (P : Profile) (rule : Rule) (k room m : ℕ) {a b : Bool} → a ≡ legal rule m → a ≡ true → b ≡ P .fits k room m → b ≡ lengthOk P rule k room m
+pub length-both : (P : Profile) (rule : Rule) (k room m : ℕ) {a b : Bool} → a ≡ legal rule m → a ≡ true → b ≡ P .fits k room m
+    → b ≡ lengthOk P rule k room m
 unfolding lengthOk
-length-both P rule k room m {a} {b} h t f = and-of (legal rule m) (P .fits k room m) b (sym h ∙ t) f
+length-both P rule k room m h t f = f ∙ ap (λ (x : Bool). x && P .fits k room m) (sym t ∙ h)
 
 -- a length that is not legal
 pub length-not : (P : Profile) (rule : Rule) (k room m : ℕ) {a : Bool} → a ≡ legal rule m → a ≡ false → false ≡ lengthOk P rule k room m
 unfolding lengthOk
-length-not P rule k room m h t = and-not (legal rule m) (P .fits k room m) (sym h ∙ t)
+length-not P rule k room m h t = ap (λ (x : Bool). x && P .fits k room m) (sym t ∙ h)
 
 -- a length judged by the rule of its type
-pub length-by : (P : Profile) (n k room type at : ℕ) (bs : List ℕ) {rule : Rule} {r : Judgement} → rule ≡ P .rule type n → r ≡ judgeAt (four 24 (lengthOk P rule k room)) at bs
+pub length-by : (P : Profile) (n k room type at : ℕ) (bs : List ℕ) {rule : Rule} {r : Judgement} → rule ≡ P .rule type n
+    → r ≡ judgeAt (four 24 (lengthOk P rule k room)) at bs
     → r ≡ judgeAt (four 24 (lengthOk P (P .rule type n) k room)) at bs
 length-by P n k room type at bs e h = h ∙ ap (λ (rule : Rule). judgeAt (four 24 (lengthOk P rule k room)) at bs) e
 
 -- -- The records
 
 -- a record count that passed leaves room for the records' headers
-pub count-leaves : (P : Profile) → Sound P → (l at : ℕ) (bs : List ℕ) {k e : ℕ} {r : Judgement} → r ≡ judgeAt (four 22 (P .count l)) at bs → r ≡ Whole k e → 40 + 8 * k ≤ l
+pub count-leaves : (P : Profile) → Sound P → (l at : ℕ) (bs : List ℕ) {k e : ℕ} {r : Judgement} → r ≡ judgeAt (four 22 (P .count l)) at bs
+    → r ≡ Whole k e → 40 + 8 * k ≤ l
 count-leaves P S l at bs {k} {e} a b = S .count-room l k (four-inverse 22 (P .count l) at bs k e (sym a ∙ b) .2)
 
 -- no record is left
@@ -68,7 +54,8 @@ unfolding records
 records-none P n k room at bs h = rw h
 
 -- the first one, then the remaining ones right behind it
-pub records-more : (P : Profile) (n k room : ℕ) → (k ≡ 0 → ⊥) → records P n k room ≡ entry P n k room >>= (λ m. records P n (k - 1) (room - m))
+pub records-more : (P : Profile) (n k room : ℕ) → (k ≡ 0 → ⊥)
+    → records P n k room ≡ entry P n k room >>= (λ m. records P n (k - 1) (room - m))
 unfolding records
 records-more P n zero room h = absurd (h refl)
 records-more P n (suc k) room h = ap (λ (j : ℕ). entry P n (suc k) room >>= (λ m. records P n j (room - m))) e
@@ -85,15 +72,19 @@ pub record EntryRead (P : Profile) (n k room at : ℕ) (bs : List ℕ) (m e : �
   pub within : e ≤ length bs
 
 -- back from a whole record to its bytes
-pub entry-inverse : (P : Profile) (n k room at : ℕ) (bs : List ℕ) (m e : ℕ) → judgeAt (entry P n k room) at bs ≡ Whole m e → EntryRead P n k room at bs m e
+pub entry-inverse : (P : Profile) (n k room at : ℕ) (bs : List ℕ) (m e : ℕ) → judgeAt (entry P n k room) at bs ≡ Whole m e
+    → EntryRead P n k room at bs m e
 unfolding entry judge
 entry-inverse P n k room at bs m e w = go (seq-inverse _ _ at bs m e w)
   where
-    paid : (type i l j : ℕ) → type ≡ littleAt 4 at bs → i ≡ at + 4 → typeOk P n k room type ≡ true → l ≡ littleAt 4 i bs → j ≡ i + 4 → j ≤ length bs
-        → lengthOk P (P .rule type n) k room l ≡ true → judgeAt (free l >>= (λ _. whole l)) j bs ≡ Whole m e → EntryRead P n k room at bs m e
+    paid : (type i l j : ℕ) → type ≡ littleAt 4 at bs → i ≡ at + 4 → typeOk P n k room type ≡ true → l ≡ littleAt 4 i bs → j ≡ i + 4
+        → j ≤ length bs
+        → lengthOk P (P .rule type n) k room l ≡ true → judgeAt (free l >>= (λ _. whole l)) j bs ≡ Whole m e
+        → EntryRead P n k room at bs m e
     paid type i l j t a p b d h q f = last-one (seq-inverse (free l) (λ _. whole l) j bs m e f)
       where
-        last-one : (u : ℕ) × (z : ℕ) × (judgeAt (free l) j bs ≡ Whole u z) × (judgeAt (whole l) z bs ≡ Whole m e) → EntryRead P n k room at bs m e
+        last-one : (u : ℕ) × (z : ℕ) × (judgeAt (free l) j bs ≡ Whole u z) × (judgeAt (whole l) z bs ≡ Whole m e)
+            → EntryRead P n k room at bs m e
         last-one g = let f = free-inverse l j bs (g .0) (g .1) (g .2) in let same : l ≡ m = cc in let there : g .1 ≡ e = cc in record {
           length-is = sym same ∙ b ∙ ap (λ (o : ℕ). littleAt 4 o bs) a;
           type-passed = rw t at p;
@@ -103,20 +94,25 @@ entry-inverse P n k room at bs m e w = go (seq-inverse _ _ at bs m e w)
         }
 
     second : (type i : ℕ) → type ≡ littleAt 4 at bs → i ≡ at + 4 → typeOk P n k room type ≡ true
-        → (u : ℕ) × (d : ℕ) × (judgeAt (four 24 (lengthOk P (P .rule type n) k room)) i bs ≡ Whole u d) × (judgeAt (free u >>= (λ _. whole u)) d bs ≡ Whole m e) → EntryRead P n k room at bs m e
+        → (u : ℕ) × (d : ℕ) × (judgeAt (four 24 (lengthOk P (P .rule type n) k room)) i bs ≡ Whole u d)
+        × (judgeAt (free u >>= (λ _. whole u)) d bs ≡ Whole m e) → EntryRead P n k room at bs m e
     second type i t a p g = let f = four-inverse 24 (lengthOk P (P .rule type n) k room) i bs (g .0) (g .1) (g .2) in
         paid type i (g .0) (g .1) t a p (f .0) (f .1) (omega (arith, f .1, f .3)) (f .2) (g .3)
 
     go : (u : ℕ) × (d : ℕ) × (judgeAt (four 23 (typeOk P n k room)) at bs ≡ Whole u d)
-        × (judgeAt (four 24 (lengthOk P (P .rule u n) k room) >>= (λ m. free m >>= (λ _. whole m))) d bs ≡ Whole m e) → EntryRead P n k room at bs m e
-    go g = let f = four-inverse 23 (typeOk P n k room) at bs (g .0) (g .1) (g .2) in second (g .0) (g .1) (f .0) (f .1) (f .2) (seq-inverse _ _ (g .1) bs m e (g .3))
+        × (judgeAt (four 24 (lengthOk P (P .rule u n) k room) >>= (λ m. free m >>= (λ _. whole m))) d bs ≡ Whole m e)
+        → EntryRead P n k room at bs m e
+    go g = let f = four-inverse 23 (typeOk P n k room) at bs (g .0) (g .1) (g .2) in
+        second (g .0) (g .1) (f .0) (f .1) (f .2) (seq-inverse _ _ (g .1) bs m e (g .3))
 
 -- a payload length that passed lies in the room
 pub passed-fits : (P : Profile) → Sound P → (n : ℕ) (rule : Rule) (k room m : ℕ) → (k ≡ 0 → ⊥) → lengthOk P rule k room m ≡ true → m ≤ room
 unfolding lengthOk
 passed-fits P S n rule zero room m h a = absurd (h refl)
-passed-fits P S n rule (suc k) room m h a = S .length-reads n k room m .0 (and-both (legal rule m) (P .fits (suc k) room m) a .1) .0
+passed-fits P S n rule (suc k) room m h a = S .length-reads n k room m .0 (and-right (legal rule m) (P .fits (suc k) room m) a) .0
 
 -- a whole record's payload lies in the room
-pub entry-fits : (P : Profile) → Sound P → (n k room at : ℕ) (bs : List ℕ) (m e : ℕ) {r : Judgement} → (k ≡ 0 → ⊥) → r ≡ judgeAt (entry P n k room) at bs → r ≡ Whole m e → m ≤ room
-entry-fits P S n k room at bs m e h a b = passed-fits P S n (P .rule (littleAt 4 at bs) n) k room m h (entry-inverse P n k room at bs m e (sym a ∙ b) .length-passed)
+pub entry-fits : (P : Profile) → Sound P → (n k room at : ℕ) (bs : List ℕ) (m e : ℕ) {r : Judgement} → (k ≡ 0 → ⊥)
+    → r ≡ judgeAt (entry P n k room) at bs → r ≡ Whole m e → m ≤ room
+entry-fits P S n k room at bs m e h a b =
+    passed-fits P S n (P .rule (littleAt 4 at bs) n) k room m h (entry-inverse P n k room at bs m e (sym a ∙ b) .length-passed)

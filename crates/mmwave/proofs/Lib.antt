@@ -6,7 +6,6 @@ pub mod Theorems
 pub mod Document
 pub mod Paper
 pub mod Reasons
-pub mod Edges
 pub mod Refusals
 pub mod Judged
 pub mod Insides

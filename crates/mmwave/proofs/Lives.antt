@@ -5,13 +5,14 @@ use mathlib.Core.List.{List, [], _∷_}
 use Prim.Native.Nat.{ℕ, zero, suc, _+_, _-_, _*_, _^_, _<_, _≤_}
 use native.Mathlib.Omega.{arith}
 use Rattle.digits.specs.Bytes.{Below, Bytes}
+use Rattle.digits.proofs.Choices.{and-right}
 use Rattle.form.specs.Form.{Form, whole, byte, word, _>>=_, _>>_, Live, Begins}
 use Rattle.form.specs.Pieces.{any, four, marker, free, frees}
 use Rattle.form.proofs.Lives.{live-four, live-free, live-frees, live-marker}
 use Rattle.mmwave.specs.declared.Rule.{Rule}
 use Rattle.mmwave.specs.Profile.{Profile, legal, typeOk, lengthOk, Fills, Sound}
 use Rattle.mmwave.specs.Packet.{magic, entry, last, records, counted, packet}
-use Rattle.mmwave.proofs.Laws.{and-both, type-test, length-both}
+use Rattle.mmwave.proofs.Laws.{type-test, length-both}
 
 -- a payload of m free bytes with the value v, and then what follows
 live-payload : (m v : ℕ) (h : ℕ → Form) → Live (h v) → Live (free m >>= (λ _. whole v) >>= h)
@@ -28,12 +29,13 @@ live-records P S n (suc k) room s f =
       (w .0, w .1, S .type-reads n k room (w .0) .1 (w .2)),
       λ type i a. let g = S .type-reads n k room type .0 a in (
         (g .0, omega (arith, g .2 .0), passes type (g .0) (g .1) (S .length-reads n k room (g .0) .1 (g .2))),
-        λ m j b. let d = S .length-reads n k room m .0 (and-both (legal (P .rule type n) m) (P .fits (suc k) room m) b .1) in
+        λ m j b. let d = S .length-reads n k room m .0 (and-right (legal (P .rule type n) m) (P .fits (suc k) room m) b) in
             live-payload m m (λ m. records P n k (room - m)) (live-records P S n k (room - m) (omega arith) (d .1)),
       ),
     )
   where
-    passes : (type m : ℕ) → legal (P .rule type n) m ≡ true → P .fits (suc k) room m ≡ true → lengthOk P (P .rule type n) (suc k) room m ≡ true
+    passes : (type m : ℕ) → legal (P .rule type n) m ≡ true → P .fits (suc k) room m ≡ true
+        → lengthOk P (P .rule type n) (suc k) room m ≡ true
     passes type m l f = sym (length-both P (P .rule type n) (suc k) room m (sym l) refl (sym f))
 
 -- what follows a legal total length

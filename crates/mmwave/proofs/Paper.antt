@@ -1,4 +1,5 @@
--- The paper's sentences are what the form and its tests say. The idea: with l a multiple of 32, "the smallest multiple of 32 not below e" is e ≤ l < e + 32.
+-- The paper's sentences are what the form and its tests say. The idea: with l a multiple of 32, "the smallest multiple of 32 not below e"
+-- is e ≤ l < e + 32.
 use mathlib.Core.Bool.{Bool, true, false, cond, _&&_}
 use mathlib.Core.Path.{_≡_, refl, sym, ap, _∙_}
 use mathlib.Core.List.{List}
@@ -19,7 +20,7 @@ use Rattle.mmwave.specs.MmWave.{mmWave, totalLegal, payloadRule, perObje
 use Rattle.mmwave.specs.Document.{Records, none, more, Laid}
 use Rattle.mmwave.specs.Paper.{LegalPayload, Smallest, RecordsTo, Packet, Later, nothing, later, CountFits, LengthFits, TypeFits}
 use Rattle.mmwave.specs.Paper.{none as none·paper, more as more·paper}
-use Rattle.mmwave.proofs.Laws.{and-both, length-both}
+use Rattle.mmwave.proofs.Laws.{length-both}
 use Rattle.mmwave.proofs.MmWaveSound.{mmWave-sound, total-bounds}
 use Rattle.mmwave.proofs.Document.{frame-exactly-if-laid, records-least}
 
@@ -94,7 +95,8 @@ smallest-near e l s = go (decLe (e + 32) l)
 
 words-forth : {bs : List ℕ} {n k p e : ℕ} → Records mmWave bs n k p e → RecordsTo bs n k p e
 words-forth none = none·paper
-words-forth {bs = bs} {n = n} (more {p = p} l r) = more·paper (legal-exactly n (littleAt 4 p bs) (littleAt 4 (p + 4) bs) .0 l) (words-forth r)
+words-forth {bs = bs} {n = n} (more {p = p} l r) =
+    more·paper (legal-exactly n (littleAt 4 p bs) (littleAt 4 (p + 4) bs) .0 l) (words-forth r)
 
 words-back : {bs : List ℕ} {n k p e : ℕ} → RecordsTo bs n k p e → Records mmWave bs n k p e
 words-back none·paper = none

@@ -1,4 +1,5 @@
--- Reasons 22, 23 and 24 are the existences by which the paper words them. The idea: room is what l leaves behind all the records' headers, so records fill it exactly if they end so that l fits.
+-- Reasons 22, 23 and 24 are the existences by which the paper words them. The idea: room is what l leaves behind all the records' headers,
+-- so records fill it exactly if they end so that l fits.
 use mathlib.Core.Bool.{Bool, true, false}
 use mathlib.Core.Path.{_≡_, refl, sym, ap, _∙_}
 use mathlib.Core.Logic.{_↔_, _⊎_, inl, inr}
@@ -7,11 +8,12 @@ use native.Mathlib.Omega.{arith}
 use native.Mathlib.Decide.{decLe, decLt}
 use lib.Dec.{ltb, leb, eqb}
 use borrow.Author.Tests.{lt-ltb, ltb-true, eq-eqb, le-leb, ne-eqb}
+use Rattle.digits.proofs.Choices.{and-parts}
 use Rattle.mmwave.specs.declared.Rule.{Rule}
 use Rattle.mmwave.specs.Profile.{Profile, legal, typeOk, lengthOk, Fills}
 use Rattle.mmwave.specs.MmWave.{mmWave, countLegal}
 use Rattle.mmwave.specs.Paper.{LegalPayload, Smallest, Later, nothing, later, CountFits, LengthFits, TypeFits}
-use Rattle.mmwave.proofs.Laws.{and-both, length-both}
+use Rattle.mmwave.proofs.Laws.{length-both}
 use Rattle.mmwave.proofs.MmWaveSound.{mmWave-sound, total-bounds}
 use Rattle.mmwave.proofs.Paper.{legal-exactly, smallest-of, smallest-near}
 
@@ -61,11 +63,13 @@ count-exactly n l k t = (forth, back)
     forth h = let c = mmWave-sound .count-reads n l k t .0 h in (c .0, fills-ends n k l 40 (total-bounds l t .0) (c .1) (c .2))
 
     back : (k ≤ 32) × CountFits n l k → countLegal l k ≡ true
-    back g = mmWave-sound .count-reads n l k t .1 (g .0, omega (arith, g .1 .2 .above, later-least (g .1 .1)), ends-fills n l 40 (g .1 .1) (g .1 .2))
+    back g = mmWave-sound .count-reads n l k t .1
+        (g .0, omega (arith, g .1 .2 .above, later-least (g .1 .1)), ends-fills n l 40 (g .1 .1) (g .1 .2))
 
 -- a record count is refused exactly if it is over 32 or no so many records can end so that l fits
 pub reason-22 : (n l k : ℕ) → mmWave .total l ≡ true → (mmWave .count l k ≡ false) ↔ ((32 < k) ⊎ (CountFits n l k → ⊥))
-reason-22 n l k t = let f = fails-exactly (mmWave .count l k) (count-exactly n l k t) in (λ h. forth (decLe k 32) (f .0 h), λ s. f .1 (back s))
+reason-22 n l k t = let f = fails-exactly (mmWave .count l k) (count-exactly n l k t) in
+    (λ h. forth (decLe k 32) (f .0 h), λ s. f .1 (back s))
   where
     forth : Dec (k ≤ 32) → ((k ≤ 32) × CountFits n l k → ⊥) → (32 < k) ⊎ (CountFits n l k → ⊥)
     forth (yes h) d = inr (λ c. d (h, c))
@@ -76,7 +80,8 @@ reason-22 n l k t = let f = fails-exactly (mmWave .count l k) (count-exactly n l
     back (inr h) g = h (g .1)
 
 -- the row of the paper's table: over 32, or 8K over L - 40, or K = 0 with L not 64
-pub reason-22-row : (l k : ℕ) → mmWave .total l ≡ true → (mmWave .count l k ≡ false) ↔ ((32 < k) ⊎ ((l - 40 < 8 * k) ⊎ ((k ≡ 0) × (l ≡ 64 → ⊥))))
+pub reason-22-row : (l k : ℕ) → mmWave .total l ≡ true
+    → (mmWave .count l k ≡ false) ↔ ((32 < k) ⊎ ((l - 40 < 8 * k) ⊎ ((k ≡ 0) × (l ≡ 64 → ⊥))))
 unfolding mmWave countLegal
 reason-22-row l zero t = (λ h. inr (inr (refl, λ e. wrong e h)), back)
   where
@@ -87,7 +92,8 @@ reason-22-row l zero t = (λ h. inr (inr (refl, λ e. wrong e h)), back)
     back (inl h) = absurd (omega arith)
     back (inr (inl h)) = absurd (omega arith)
     back (inr (inr h)) = ne-eqb l 64 (h .1)
-reason-22-row l (suc k) t = let f = fails-exactly (countLegal l (suc k)) (tests) in (λ h. forth (decLe (suc k) 32) (f .0 h), λ s. f .1 (back s))
+reason-22-row l (suc k) t = let f = fails-exactly (countLegal l (suc k)) (tests) in
+    (λ h. forth (decLe (suc k) 32) (f .0 h), λ s. f .1 (back s))
   where
     tests : (countLegal l (suc k) ≡ true) ↔ ((suc k ≤ 32) × (40 + 8 * suc k ≤ l))
     tests = (
@@ -95,7 +101,8 @@ reason-22-row l (suc k) t = let f = fails-exactly (countLegal l (suc k)) (tests)
       λ g. rw (ne-eqb (suc k) 0 (omega arith), le-leb (suc k) 32 (g .0), le-leb (40 + 8 * suc k) l (g .1)),
     )
 
-    forth : Dec (suc k ≤ 32) → ((suc k ≤ 32) × (40 + 8 * suc k ≤ l) → ⊥) → (32 < suc k) ⊎ ((l - 40 < 8 * suc k) ⊎ ((suc k ≡ 0) × (l ≡ 64 → ⊥)))
+    forth : Dec (suc k ≤ 32) → ((suc k ≤ 32) × (40 + 8 * suc k ≤ l) → ⊥)
+        → (32 < suc k) ⊎ ((l - 40 < 8 * suc k) ⊎ ((suc k ≡ 0) × (l ≡ 64 → ⊥)))
     forth (no h) d = inl (omega arith)
     forth (yes h) d = over (decLe (40 + 8 * suc k) l)
       where
@@ -112,7 +119,8 @@ reason-22-row l (suc k) t = let f = fails-exactly (countLegal l (suc k)) (tests)
 
 module _ (n l p k : ℕ) (aligned : l % 32 ≡ 0) (headers : p + 8 * suc k ≤ l) where
   fits-forth : (m : ℕ) → (m ≤ l - (p + 8 * suc k)) × Fills mmWave n k (l - (p + 8 * suc k) - m) → LengthFits n l p k m
-  fits-forth m g = let i = g .0 in let s : l - (p + 8 * suc k) - m ≡ l - (p + 8 + m + 8 * k) = omega arith in fills-ends n k l (p + 8 + m) aligned (omega arith) (rw s at (g .1))
+  fits-forth m g = let i = g .0 in let s : l - (p + 8 * suc k) - m ≡ l - (p + 8 + m + 8 * k) = omega arith in
+      fills-ends n k l (p + 8 + m) aligned (omega arith) (rw s at (g .1))
 
   fits-back : (m : ℕ) → LengthFits n l p k m → (m ≤ l - (p + 8 * suc k)) × Fills mmWave n k (l - (p + 8 * suc k) - m)
   fits-back m g =
@@ -128,11 +136,14 @@ module _ (n l p k : ℕ) (aligned : l % 32 ≡ 0) (headers : p + 8 * suc k ≤ l
   )
 
   -- a payload length passes exactly if it is legal for the type and lets the records end so that l fits
-  pub length-exactly : (type m : ℕ) → (lengthOk mmWave (mmWave .rule type n) (suc k) (l - (p + 8 * suc k)) m ≡ true) ↔ (LegalPayload n type m × LengthFits n l p k m)
+  pub length-exactly : (type m : ℕ) → (lengthOk mmWave (mmWave .rule type n) (suc k) (l - (p + 8 * suc k)) m ≡ true) ↔
+      (LegalPayload n type m × LengthFits n l p k m)
   unfolding lengthOk
   length-exactly type m = let room = l - (p + 8 * suc k) in let f = mmWave-sound .length-reads n k room m in (
-    λ h. let b = and-both (legal (mmWave .rule type n) m) (mmWave .fits (suc k) room m) h in (legal-exactly n type m .0 (b .0), fits-forth m (f .0 (b .1))),
-    λ g. sym (length-both mmWave (mmWave .rule type n) (suc k) room m (sym (legal-exactly n type m .1 (g .0))) refl (sym (f .1 (fits-back m (g .1))))),
+    λ h. let b = and-parts (legal (mmWave .rule type n) m) (mmWave .fits (suc k) room m) h in
+        (legal-exactly n type m .0 (b .0), fits-forth m (f .0 (b .1))),
+    λ g. sym (length-both mmWave (mmWave .rule type n) (suc k) room m (sym (legal-exactly n type m .1 (g .0))) refl
+        (sym (f .1 (fits-back m (g .1))))),
   )
 
   -- a type is refused exactly if no legal payload length of this type lets the records end so that l fits
@@ -140,5 +151,6 @@ module _ (n l p k : ℕ) (aligned : l % 32 ≡ 0) (headers : p + 8 * suc k ≤ l
   reason-23 type = fails-exactly (typeOk mmWave n (suc k) (l - (p + 8 * suc k)) type) (type-exactly type)
 
   -- a payload length is refused exactly if it is not legal for the type, or does not let the records end so that l fits
-  pub reason-24 : (type m : ℕ) → (lengthOk mmWave (mmWave .rule type n) (suc k) (l - (p + 8 * suc k)) m ≡ false) ↔ (LegalPayload n type m × LengthFits n l p k m → ⊥)
+  pub reason-24 : (type m : ℕ) → (lengthOk mmWave (mmWave .rule type n) (suc k) (l - (p + 8 * suc k)) m ≡ false) ↔
+      (LegalPayload n type m × LengthFits n l p k m → ⊥)
   reason-24 type m = fails-exactly (lengthOk mmWave (mmWave .rule type n) (suc k) (l - (p + 8 * suc k)) m) (length-exactly type m)

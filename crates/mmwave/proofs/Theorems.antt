@@ -12,36 +12,22 @@ use Rattle.form.specs.Form.{_>>=_, judge, Stands, Completable, Inside, Live}
 use Rattle.form.specs.Pieces.{marker}
 use Rattle.form.specs.Judging.{Lawful}
 use Rattle.digits.proofs.Lists.{drop-one}
-use Rattle.form.proofs.Theorems.{Settled, whole-exactly-if-stands, stands-once, judgement-kept, waits-exactly, inside-waits, looks-no-further, lawful}
+use Rattle.form.proofs.Theorems.{Settled, whole-exactly-if-stands, stands-once, judgement-kept, waits-exactly, inside-waits}
+use Rattle.form.proofs.Theorems.{looks-no-further, lawful}
 use Rattle.mmwave.specs.Profile.{Profile}
 use Rattle.mmwave.specs.Packet.{magic, packet}
 use Rattle.mmwave.specs.MmWave.{mmWave}
 use Rattle.mmwave.proofs.Lives.{live-packet, begins-packet}
 use Rattle.mmwave.proofs.MmWaveSound.{mmWave-sound}
 
--- judged whole exactly if a packet stands, with its kind and length
-pub mmwave-whole : (k n : ℕ) (bs : List ℕ) → (judge (packet mmWave) 0 bs ≡ Whole k n) ↔ Stands (packet mmWave) k n bs
-mmwave-whole k n bs = whole-exactly-if-stands (packet mmWave) k n bs
-
--- at most one packet stands
-pub mmwave-once : (k₁ n₁ k₂ n₂ : ℕ) (bs : List ℕ) → Stands (packet mmWave) k₁ n₁ bs → Stands (packet mmWave) k₂ n₂ bs → (k₁ ≡ k₂) × (n₁ ≡ n₂)
-mmwave-once k₁ n₁ k₂ n₂ bs = stands-once (packet mmWave) k₁ n₁ k₂ n₂ bs
-
--- whole and bad judgements are kept, with kind and length or reason, when any bytes are appended
-pub mmwave-kept : (bs more : List ℕ) → (judge (packet mmWave) 0 bs ≡ Waiting → ⊥) → judge (packet mmWave) 0 (bs ++ more) ≡ judge (packet mmWave) 0 bs
-mmwave-kept bs more = judgement-kept (packet mmWave) 0 bs more
-
 -- bytes that do not end inside a four-byte field wait exactly if no packet stands and some further bytes complete one
-pub mmwave-waits : (bs : List ℕ) → Bytes bs → (Inside (packet mmWave) bs → ⊥) → (judge (packet mmWave) 0 bs ≡ Waiting) ↔ Completable (packet mmWave) bs
+pub mmwave-waits : (bs : List ℕ) → Bytes bs → (Inside (packet mmWave) bs → ⊥)
+    → (judge (packet mmWave) 0 bs ≡ Waiting) ↔ Completable (packet mmWave) bs
 mmwave-waits bs = waits-exactly (packet mmWave) bs (live-packet mmWave mmWave-sound)
 
 -- bytes that end inside a four-byte field wait
 pub mmwave-inside : (bs : List ℕ) → Inside (packet mmWave) bs → judge (packet mmWave) 0 bs ≡ Waiting
 mmwave-inside bs = inside-waits (packet mmWave) 0 bs
-
--- no byte behind the packet, or behind the one refused, counts
-pub mmwave-looks-no-further : (bs : List ℕ) → (judge (packet mmWave) 0 bs ≡ Waiting → ⊥) → Settled (packet mmWave) bs
-mmwave-looks-no-further bs = looks-no-further (packet mmWave) bs
 
 -- readings can go by the packet's judgement: a whole packet lies within the bytes and is not empty, and the end waits
 pub mmwave-lawful : Lawful (judge (packet mmWave) 0)

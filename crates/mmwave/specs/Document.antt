@@ -1,4 +1,5 @@
--- A packet by its offsets, for any profile: what stands between the form and the paper's own sentences (`frame-exactly-if-laid`, `bad-exactly`, `inside-exactly`).
+-- A packet by its offsets, for any profile: what stands between the form and the paper's own sentences
+-- (`frame-exactly-if-laid`, `bad-exactly`, `inside-exactly`).
 use mathlib.Core.Bool.{true, false}
 use mathlib.Core.Path.{_≡_}
 use mathlib.Core.List.{List}
@@ -12,7 +13,8 @@ use Rattle.mmwave.specs.Packet.{magic}
 -- k records stand right behind one another from offset p to e, each of a payload length that is legal for its type
 pub data Records (P : Profile) (bs : List ℕ) (n : ℕ) : ℕ → ℕ → ℕ → Type 0 where
   none : {p : ℕ} → Records P bs n 0 p p
-  more : {k p e : ℕ} → legal (P .rule (littleAt 4 p bs) n) (littleAt 4 (p + 4) bs) ≡ true → Records P bs n k (p + 8 + littleAt 4 (p + 4) bs) e → Records P bs n (suc k) p e
+  more : {k p e : ℕ} → legal (P .rule (littleAt 4 p bs) n) (littleAt 4 (p + 4) bs) ≡ true
+      → Records P bs n k (p + 8 + littleAt 4 (p + 4) bs) e → Records P bs n (suc k) p e
 
 -- the bytes are one packet: the header's fields at their offsets, the records from offset 40 on, and the padding
 pub record Laid (P : Profile) (bs : List ℕ) : Type 0 where
@@ -38,26 +40,33 @@ pub record HeaderHolds (P : Profile) (bs : List ℕ) : Type 0 where
 pub data Reached (P : Profile) (bs : List ℕ) : ℕ → ℕ → ℕ → Type 0 where
   first : HeaderHolds P bs → Reached P bs (littleAt 4 32 bs) 40 (littleAt 4 12 bs - (40 + 8 * littleAt 4 32 bs))
   next : {k p room : ℕ} → Reached P bs (suc k) p room → typeOk P (littleAt 4 28 bs) (suc k) room (littleAt 4 p bs) ≡ true
-      → lengthOk P (P .rule (littleAt 4 p bs) (littleAt 4 28 bs)) (suc k) room (littleAt 4 (p + 4) bs) ≡ true → p + 8 + littleAt 4 (p + 4) bs ≤ length bs
+      → lengthOk P (P .rule (littleAt 4 p bs) (littleAt 4 28 bs)) (suc k) room (littleAt 4 (p + 4) bs) ≡ true
+      → p + 8 + littleAt 4 (p + 4) bs ≤ length bs
       → Reached P bs k (p + 8 + littleAt 4 (p + 4) bs) (room - littleAt 4 (p + 4) bs)
 
--- a check fails that is due, and every check before it holds: by its reason (paper 01, "Judging a place": the first that fails gives the reason)
+-- a check that is due fails and every check before it holds: the first that fails gives the reason (paper 01, "Judging a place")
 pub data Refused (P : Profile) (bs : List ℕ) : ℕ → Type 0 where
   at-magic : Broken magic bs → Refused P bs 20
   at-total : take 8 bs ≡ magic → 16 ≤ length bs → P .total (littleAt 4 12 bs) ≡ false → Refused P bs 21
-  at-count : take 8 bs ≡ magic → P .total (littleAt 4 12 bs) ≡ true → 36 ≤ length bs → P .count (littleAt 4 12 bs) (littleAt 4 32 bs) ≡ false → Refused P bs 22
-  at-type : {k p room : ℕ} → Reached P bs (suc k) p room → p + 4 ≤ length bs → typeOk P (littleAt 4 28 bs) (suc k) room (littleAt 4 p bs) ≡ false → Refused P bs 23
-  at-length : {k p room : ℕ} → Reached P bs (suc k) p room → p + 8 ≤ length bs → typeOk P (littleAt 4 28 bs) (suc k) room (littleAt 4 p bs) ≡ true
+  at-count : take 8 bs ≡ magic → P .total (littleAt 4 12 bs) ≡ true → 36 ≤ length bs
+      → P .count (littleAt 4 12 bs) (littleAt 4 32 bs) ≡ false → Refused P bs 22
+  at-type : {k p room : ℕ} → Reached P bs (suc k) p room → p + 4 ≤ length bs
+      → typeOk P (littleAt 4 28 bs) (suc k) room (littleAt 4 p bs) ≡ false → Refused P bs 23
+  at-length : {k p room : ℕ} → Reached P bs (suc k) p room → p + 8 ≤ length bs
+      → typeOk P (littleAt 4 28 bs) (suc k) room (littleAt 4 p bs) ≡ true
       → lengthOk P (P .rule (littleAt 4 p bs) (littleAt 4 28 bs)) (suc k) room (littleAt 4 (p + 4) bs) ≡ false → Refused P bs 24
 
 -- the bytes end inside a four-byte field, by the profile's tests; the paper's own words are `EndsInField`.
--- The fields by their offsets: version, total length; platform, frame number and time; object count, record count; subframe; those of the record at p
+-- The fields by their offsets: version, total length; platform, frame number and time; object count, record count; subframe;
+-- those of the record at p
 pub data EndsInside (P : Profile) (bs : List ℕ) : Type 0 where
   in-version : take 8 bs ≡ magic → Cut 8 bs → EndsInside P bs
   in-total : take 8 bs ≡ magic → Cut 12 bs → EndsInside P bs
   in-free : (i : ℕ) → i < 3 → take 8 bs ≡ magic → P .total (littleAt 4 12 bs) ≡ true → Cut (16 + 4 * i) bs → EndsInside P bs
   in-objects : take 8 bs ≡ magic → P .total (littleAt 4 12 bs) ≡ true → Cut 28 bs → EndsInside P bs
   in-count : take 8 bs ≡ magic → P .total (littleAt 4 12 bs) ≡ true → Cut 32 bs → EndsInside P bs
-  in-subframe : take 8 bs ≡ magic → P .total (littleAt 4 12 bs) ≡ true → P .count (littleAt 4 12 bs) (littleAt 4 32 bs) ≡ true → Cut 36 bs → EndsInside P bs
+  in-subframe : take 8 bs ≡ magic → P .total (littleAt 4 12 bs) ≡ true → P .count (littleAt 4 12 bs) (littleAt 4 32 bs) ≡ true → Cut 36 bs
+      → EndsInside P bs
   in-type : {k p room : ℕ} → Reached P bs (suc k) p room → Cut p bs → EndsInside P bs
-  in-length : {k p room : ℕ} → Reached P bs (suc k) p room → typeOk P (littleAt 4 28 bs) (suc k) room (littleAt 4 p bs) ≡ true → Cut (p + 4) bs → EndsInside P bs
+  in-length : {k p room : ℕ} → Reached P bs (suc k) p room → typeOk P (littleAt 4 28 bs) (suc k) room (littleAt 4 p bs) ≡ true
+      → Cut (p + 4) bs → EndsInside P bs

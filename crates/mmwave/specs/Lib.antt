@@ -4,4 +4,3 @@ pub mod Internal
 pub mod MmWave
 pub mod Document
 pub mod Paper
-pub mod Edges

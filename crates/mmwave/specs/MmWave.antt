@@ -31,7 +31,7 @@ payloadRule type n =
     (cond (eqb type 8) Fours
     (cond (eqb type 9) (Exact 28) Free))))))))
 
--- a payload of m bytes fits if it leaves k - 1 records a room that they can fill: any, as a free type fills it, or less than 32 behind the last one
+-- m bytes fit if the k - 1 records behind them can fill the room left: any, as a free type fills it, or less than 32 behind the last one
 unfoldable pub payloadFits : ℕ → ℕ → ℕ → Bool
 payloadFits k room m = leb m room && (ltb 1 k || ltb (room - m) 32)
 

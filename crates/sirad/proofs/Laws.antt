@@ -1,4 +1,5 @@
--- The laws of the frames' parts: each row is judged as the parts that the code judges one after the other, and a frame by its start marker and identifier and then its body.
+-- The laws of the frames' parts: each row is judged as the parts that the code judges one after the other, and a frame by its start marker
+-- and identifier and then its body.
 use mathlib.Core.Bool.{Bool, true, cond, _&&_}
 use mathlib.Core.Path.{_≡_, refl, sym, ap, _∙_}
 use mathlib.Core.List.{List, [], _∷_}
@@ -22,12 +23,14 @@ use Rattle.sirad.specs.Sirad.{lay, row, run, head, block, kindOf, known,
 -- -- The rows
 
 -- the stop marker is its two bytes
-pub stop-form : (kind at : ℕ) (s : List ℕ) → judgeAt (row ending kind) at s ≡ judgeAt (one (reason Cr) (accepts Cr) >>= (λ _. one (reason Lf) (accepts Lf) >>= (λ _. whole kind))) at s
+pub stop-form : (kind at : ℕ) (s : List ℕ) → judgeAt (row ending kind) at s ≡ judgeAt
+    (one (reason Cr) (accepts Cr) >>= (λ _. one (reason Lf) (accepts Lf) >>= (λ _. whole kind))) at s
 unfolding lay classes _>>=_
 stop-form kind at s = refl
 
 -- format and gain are a digit and a character
-pub head-form : (at : ℕ) (s : List ℕ) → judgeAt head at s ≡ judgeAt (one (reason Hex) (accepts Hex) >>= (λ _. one (reason Char) (accepts Char) >>= (λ _. whole 0))) at s
+pub head-form : (at : ℕ) (s : List ℕ) → judgeAt head at s ≡ judgeAt
+    (one (reason Hex) (accepts Hex) >>= (λ _. one (reason Char) (accepts Char) >>= (λ _. whole 0))) at s
 unfolding lay _>>=_
 head-form at s = refl
 
@@ -47,7 +50,8 @@ unfolding lay classes _>>=_
 targets-form at s = refl
 
 -- number and distance, magnitude, phase, reserved
-pub block-form : (at : ℕ) (s : List ℕ) → judgeAt block at s ≡ judgeAt (run 5 Hex >>= (λ _. run 1 Char >>= (λ _. run 4 Hex >>= (λ _. run 4 Char)))) at s
+pub block-form : (at : ℕ) (s : List ℕ) → judgeAt block at s ≡ judgeAt
+    (run 5 Hex >>= (λ _. run 1 Char >>= (λ _. run 4 Hex >>= (λ _. run 4 Char)))) at s
 unfolding lay run block classes _>>=_
 block-form at s = refl
 
@@ -80,7 +84,8 @@ characters-form zero kind = refl
 characters-form (suc n) kind = ap (λ (p : Form). byte 13 (accepts Char) (λ _. p)) (characters-form n kind)
 
 -- reserved bytes and data are one run of characters
-pub data-form : (n kind at : ℕ) (s : List ℕ) → judgeAt (row (dataPieces n) kind) at s ≡ judgeAt (run (n + 8) Char >>= (λ _. row ending kind)) at s
+pub data-form : (n kind at : ℕ) (s : List ℕ)
+    → judgeAt (row (dataPieces n) kind) at s ≡ judgeAt (run (n + 8) Char >>= (λ _. row ending kind)) at s
 unfolding lay run classes _>>=_
 data-form n kind at s =
     let e : n + 8 ≡ suc (suc (suc (suc (suc (suc (suc (suc n))))))) = omega arith in
@@ -95,7 +100,8 @@ blocks-first (suc n) at s h = let e : suc n - 1 ≡ n = omega arith in rw e
 
 module _ (n at : ℕ) (s : List ℕ) where
   -- the next block stands: the others are left
-  pub blocks-next : {r : Judgement} {v e : ℕ} → 0 < n → r ≡ judgeAt block at s → r ≡ Whole v e → judgeAt (row (blocks n) 4) at s ≡ judgeAt (row (blocks (n - 1)) 4) e s
+  pub blocks-next : {r : Judgement} {v e : ℕ} → 0 < n → r ≡ judgeAt block at s → r ≡ Whole v e
+      → judgeAt (row (blocks n) 4) at s ≡ judgeAt (row (blocks (n - 1)) 4) e s
   blocks-next h a b = blocks-first n at s h ∙ go-on _ _ _ _ a b
 
   -- the next block does not stand: its judgement is that of all
@@ -136,7 +142,8 @@ module _ (bs : List ℕ) (h : 2 ≤ length bs) (e : getD bs 0 0 ≡ 33) where
   judge-second : judge sirad 0 bs ≡ cond (known (kindOf (getD bs 1 0))) (judgeAt (body (kindOf (getD bs 1 0))) 2 bs) (Bad 11)
   judge-second = by bs h e
     where
-      by : (bs : List ℕ) → 2 ≤ length bs → getD bs 0 0 ≡ 33 → judge sirad 0 bs ≡ cond (known (kindOf (getD bs 1 0))) (judgeAt (body (kindOf (getD bs 1 0))) 2 bs) (Bad 11)
+      by : (bs : List ℕ) → 2 ≤ length bs → getD bs 0 0 ≡ 33
+          → judge sirad 0 bs ≡ cond (known (kindOf (getD bs 1 0))) (judgeAt (body (kindOf (getD bs 1 0))) 2 bs) (Bad 11)
       by [] h e = absurd (omega arith)
       by (b ∷ []) h e = absurd (omega arith)
       by (b ∷ c ∷ bs) h e = second b c bs e

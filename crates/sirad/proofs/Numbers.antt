@@ -4,8 +4,7 @@ use mathlib.Core.Path.{_≡_, sym, _∙_}
 use mathlib.Core.List.{List}
 use Prim.Native.Nat.{ℕ, zero, suc, _+_, _*_, _-_, _^_, _<_, _≤_}
 use native.Mathlib.Omega.{arith}
-use native.Mathlib.Nat.{pow-le-pow-right, pow-succ', lt-of-lt-of-le}
-use native.Mathlib.Numerals.{add-one}
+use native.Mathlib.Nat.{pow-le-pow-right, lt-of-lt-of-le}
 use lib.ListN.{length, getD}
 use Rattle.digits.specs.Bytes.{isHex}
 use Rattle.digits.specs.Hex.{digit}
@@ -39,7 +38,8 @@ module _ (b : ℕ) (hex : isHex b ≡ true) where
 
 -- -- Numbers
 
-number-first : (n v at : ℕ) (s : List ℕ) → 0 < n → judgeAt (number n v) at s ≡ judgeAt (byte 12 isHex (λ b. number (n - 1) (v * 16 + digit b))) at s
+number-first : (n v at : ℕ) (s : List ℕ) → 0 < n
+    → judgeAt (number n v) at s ≡ judgeAt (byte 12 isHex (λ b. number (n - 1) (v * 16 + digit b))) at s
 unfolding number
 number-first zero v at s h = absurd (omega arith)
 number-first (suc n) v at s h = let e : suc n - 1 ≡ n = omega arith in rw e
@@ -47,10 +47,6 @@ number-first (suc n) v at s h = let e : suc n - 1 ≡ n = omega arith in rw e
 -- before the first digit
 pub number-none : (n at : ℕ) (s : List ℕ) → judgeAt (number n 0) at s ≡ judgeAt (number (n - 0) 0) at s
 number-none n at s = let e : n - 0 ≡ n = omega arith in rw e
-
--- one digit more
-pub number-grows : (i v d : ℕ) → v < 16 ^ i → d < 16 → v * 16 + d < 16 ^ (i + 1)
-number-grows i v d h l = rw (add-one, pow-succ') (omega arith)
 
 -- up to seven digits fit 28 bits
 pub number-fits : (i n v : ℕ) → i < n → n ≤ 7 → v < 16 ^ i → v < 2 ^ 24
@@ -63,10 +59,12 @@ module _ (n i v at : ℕ) (s : List ℕ) where
 
   -- the next byte is no digit
   pub number-miss : i < n → at < length s → isHex (getD s at 0) ≡ false → Bad 12 ≡ judgeAt (number (n - i) v) at s
-  number-miss h l t = sym (number-first (n - i) v at s (omega arith) ∙ byte-step 12 isHex (λ b. number (n - i - 1) (v * 16 + digit b)) at s l ∙ rw t)
+  number-miss h l t =
+      sym (number-first (n - i) v at s (omega arith) ∙ byte-step 12 isHex (λ b. number (n - i - 1) (v * 16 + digit b)) at s l ∙ rw t)
 
   -- the next byte is a digit
-  pub number-hit : i < n → at < length s → isHex (getD s at 0) ≡ true → {d : ℕ} → d ≡ digit (getD s at 0) → judgeAt (number (n - i) v) at s ≡ judgeAt (number (n - (i + 1)) (v * 16 + d)) (at + 1) s
+  pub number-hit : i < n → at < length s → isHex (getD s at 0) ≡ true → {d : ℕ} → d ≡ digit (getD s at 0)
+      → judgeAt (number (n - i) v) at s ≡ judgeAt (number (n - (i + 1)) (v * 16 + d)) (at + 1) s
   number-hit h l t {d} f =
       let e : n - i - 1 ≡ n - (i + 1) = omega arith in
       number-first (n - i) v at s (omega arith)

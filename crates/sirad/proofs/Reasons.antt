@@ -1,4 +1,5 @@
--- Behind the identifier the judgement is a walk along the row of the kind, so a bad judgement is the first byte that is not of the table's class, with the reason of that class.
+-- Behind the identifier the judgement is a walk along the row of the kind, so a bad judgement is the first byte that is not of the table's
+-- class, with the reason of that class.
 use mathlib.Core.Bool.{Bool, true, false, cond}
 use mathlib.Core.Path.{_≡_, refl, sym, ap, subst, _∙_}
 use mathlib.Core.List.{List, [], _∷_, _++_}
@@ -28,18 +29,21 @@ use Rattle.sirad.proofs.TableLaws.{column, Shape, shape}
 
 -- -- The judgement along a row
 
-number-laid : (w : ℕ) (cs : ℕ → List Class) (n v at : ℕ) (bs : List ℕ) → judge (number n v >>= (λ m. lay (cs m) w)) at bs ≡ judge (lay (replicate n Hex ++ cs (hexFrom v (take n bs))) w) at bs
+number-laid : (w : ℕ) (cs : ℕ → List Class) (n v at : ℕ) (bs : List ℕ)
+    → judge (number n v >>= (λ m. lay (cs m) w)) at bs ≡ judge (lay (replicate n Hex ++ cs (hexFrom v (take n bs))) w) at bs
 unfolding number lay judge hexFrom _>>=_
 number-laid w cs zero v at bs = refl
 number-laid w cs (suc n) v at [] = refl
-number-laid w cs (suc n) v at (b ∷ bs) = ap (λ (j : Judgement). cond (isHex b) j (Bad 12)) (number-laid w cs n (v * 16 + digit b) (at + 1) bs)
+number-laid w cs (suc n) v at (b ∷ bs) =
+    ap (λ (j : Judgement). cond (isHex b) j (Bad 12)) (number-laid w cs n (v * 16 + digit b) (at + 1) bs)
 
 sized-laid : (kind at : ℕ) (bs : List ℕ) → judge (sized kind) at bs ≡ judge (row (rPieces (hexFrom 0 (take 4 bs))) kind) at bs
 unfolding classes
 sized-laid kind at bs = number-laid kind (λ n. classes (dataPieces n)) 4 0 at bs
 
 -- bytes with the start marker and the identifier of a kind are judged along the row of that kind
-along : (kind b c : ℕ) (bs : List ℕ) → 1 ≤ kind → kind ≤ 6 → b ≡ 33 → c ≡ identifier kind → judge sirad 0 (b ∷ c ∷ bs) ≡ judge (row (rowOf kind (hexFrom 0 (take 4 bs))) kind) 2 bs
+along : (kind b c : ℕ) (bs : List ℕ) → 1 ≤ kind → kind ≤ 6 → b ≡ 33 → c ≡ identifier kind
+    → judge sirad 0 (b ∷ c ∷ bs) ≡ judge (row (rowOf kind (hexFrom 0 (take 4 bs))) kind) 2 bs
 unfolding body
 along zero b c bs l m s e = absurd (omega arith)
 along (suc zero) b c bs l m s e = judge-body (b ∷ c ∷ bs) (omega arith) s (Sized 1) (ap kindOf e) refl ∙ sized-laid 1 2 bs
@@ -75,7 +79,8 @@ column-fails f i (suc n) v at (b ∷ bs) r h = go (accepts (f i) b) refl h (colu
     on : (j : ℕ) → f (i + suc j) ≡ f (suc i + j)
     on j = let e : i + suc j ≡ suc i + j = omega arith in ap f e
 
-    first : (a : ℕ) → accepts (f i) b ≡ true → ((j : ℕ) → j < a → accepts (f (suc i + j)) (getD bs j 0) ≡ true) → (j : ℕ) → j < suc a → accepts (f (i + j)) (getD (b ∷ bs) j 0) ≡ true
+    first : (a : ℕ) → accepts (f i) b ≡ true → ((j : ℕ) → j < a → accepts (f (suc i + j)) (getD bs j 0) ≡ true) → (j : ℕ) → j < suc a
+        → accepts (f (i + j)) (getD (b ∷ bs) j 0) ≡ true
     first a t p zero l = ap (λ (c : Class). accepts c b) here ∙ t
     first a t p (suc j) l = ap (λ (c : Class). accepts c (getD bs j 0)) (on j) ∙ p j (omega arith)
 
@@ -101,7 +106,8 @@ column-fails f i (suc n) v at (b ∷ bs) r h = go (accepts (f i) b) refl h (colu
       why = same-bad (reason (f i)) r j ∙ sym (ap reason here);
     }
 
-fails-column : (f : ℕ → Class) (i n v at a : ℕ) (bs : List ℕ) → a < length bs → a < n → ((j : ℕ) → j < a → accepts (f (i + j)) (getD bs j 0) ≡ true) → accepts (f (i + a)) (getD bs a 0) ≡ false
+fails-column : (f : ℕ → Class) (i n v at a : ℕ) (bs : List ℕ) → a < length bs → a < n
+    → ((j : ℕ) → j < a → accepts (f (i + j)) (getD bs j 0) ≡ true) → accepts (f (i + a)) (getD bs a 0) ≡ false
     → judge (lay (column f i n) v) at bs ≡ Bad (reason (f (i + a)))
 unfolding column lay judge
 fails-column f i zero v at a bs l m p t = absurd (omega arith)
@@ -109,7 +115,8 @@ fails-column f i (suc n) v at a [] l m p t = absurd (omega arith)
 fails-column f i (suc n) v at zero (b ∷ bs) l m p t =
     let e : i + 0 ≡ i = add-zero i in
     let u : accepts (f i) b ≡ false = ap (λ (x : ℕ). accepts (f x) b) (sym e) ∙ t in
-    ap (λ (u : Bool). cond u (judge (lay (column f (suc i) n) v) (at + 1) bs) (Bad (reason (f i)))) u ∙ ap (λ (x : ℕ). Bad (reason (f x))) (sym e)
+    ap (λ (u : Bool). cond u (judge (lay (column f (suc i) n) v) (at + 1) bs) (Bad (reason (f i)))) u
+    ∙ ap (λ (x : ℕ). Bad (reason (f x))) (sym e)
 fails-column f i (suc n) v at (suc a) (b ∷ bs) l m p t =
     let e : i + 0 ≡ i = add-zero i in
     let d : suc i + a ≡ i + suc a = omega arith in
@@ -117,12 +124,14 @@ fails-column f i (suc n) v at (suc a) (b ∷ bs) l m p t =
     let rest = fails-column f (suc i) n v (at + 1) a bs (omega arith) (omega arith)
     (λ j k. let c : suc i + j ≡ i + suc j = omega arith in ap (λ (x : ℕ). accepts (f x) (getD bs j 0)) c ∙ p (suc j) (omega arith))
     (ap (λ (x : ℕ). accepts (f x) (getD bs a 0)) d ∙ t) in
-    ap (λ (u : Bool). cond u (judge (lay (column f (suc i) n) v) (at + 1) bs) (Bad (reason (f i)))) u ∙ rest ∙ ap (λ (x : ℕ). Bad (reason (f x))) d
+    ap (λ (u : Bool). cond u (judge (lay (column f (suc i) n) v) (at + 1) bs) (Bad (reason (f i)))) u ∙ rest
+    ∙ ap (λ (x : ℕ). Bad (reason (f x))) d
 
 -- -- Bad exactly if the table refuses
 
 module _ (kind b c : ℕ) (bs : List ℕ) (l : 1 ≤ kind) (m : kind ≤ 6) (s : b ≡ 33) (e : c ≡ identifier kind) where
-  columned : (h : Shape kind (hexFrom 0 (take 4 bs))) → judge sirad 0 (b ∷ c ∷ bs) ≡ judge (lay (column (classAt kind (suc (suc (h .bytes)))) 2 (h .bytes)) kind) 2 bs
+  columned : (h : Shape kind (hexFrom 0 (take 4 bs)))
+      → judge sirad 0 (b ∷ c ∷ bs) ≡ judge (lay (column (classAt kind (suc (suc (h .bytes)))) 2 (h .bytes)) kind) 2 bs
   columned h = along kind b c bs l m s e ∙ ap (λ (cs : List Class). judge (lay cs kind) 2 bs) (h .column-is)
 
   member : (r : ℕ) → judge sirad 0 (b ∷ c ∷ bs) ≡ Bad r → Refused (b ∷ c ∷ bs) r
@@ -131,7 +140,8 @@ module _ (kind b c : ℕ) (bs : List ℕ) (l : 1 ≤ kind) (m : kind ≤ 6) (s :
       two : (f : ℕ → Class) (i : ℕ) → f (2 + i) ≡ f (suc (suc i))
       two f i = let d : 2 + i ≡ suc (suc i) = omega arith in ap f d
 
-      from : (size : ℕ) → size ≡ total kind (hexAt 4 2 (b ∷ c ∷ bs)) → (n : ℕ) → size ≡ suc (suc n) → Fails (classAt kind size) 2 n bs r → Refused (b ∷ c ∷ bs) r
+      from : (size : ℕ) → size ≡ total kind (hexAt 4 2 (b ∷ c ∷ bs)) → (n : ℕ) → size ≡ suc (suc n) → Fails (classAt kind size) 2 n bs r
+          → Refused (b ∷ c ∷ bs) r
       from size w n q g =
           subst (Refused (b ∷ c ∷ bs))
           (sym (g .why ∙ ap reason (two (classAt kind size) (g .at)) ∙ ap (λ (t : ℕ). reason (classAt kind t (suc (suc (g .at))))) w))
@@ -140,7 +150,8 @@ module _ (kind b c : ℕ) (bs : List ℕ) (l : 1 ≤ kind) (m : kind ≤ 6) (s :
           passes : (i : ℕ) → 2 ≤ i → i < suc (suc (g .at)) → accepts (classAt kind size i) (getD (b ∷ c ∷ bs) i 0) ≡ true
           passes zero h k = absurd (omega arith)
           passes (suc zero) h k = absurd (omega arith)
-          passes (suc (suc i)) h k = ap (λ (x : Class). accepts x (getD bs i 0)) (sym (two (classAt kind size) i)) ∙ g .passed i (omega arith)
+          passes (suc (suc i)) h k =
+              ap (λ (x : Class). accepts x (getD bs i 0)) (sym (two (classAt kind size) i)) ∙ g .passed i (omega arith)
 
           first : FirstFails kind size (suc (suc (g .at))) (b ∷ c ∷ bs)
           first = record {
@@ -155,22 +166,28 @@ module _ (kind b c : ℕ) (bs : List ℕ) (l : 1 ≤ kind) (m : kind ≤ 6) (s :
       go h = from (suc (suc (h .bytes))) (sym (h .whole-size)) (h .bytes) refl
           (column-fails (classAt kind (suc (suc (h .bytes)))) 2 (h .bytes) kind 2 bs r (sym (columned h) ∙ j))
 
-  refuses : (at : ℕ) → FirstFails kind (total kind (hexAt 4 2 (b ∷ c ∷ bs))) at (b ∷ c ∷ bs) → judge sirad 0 (b ∷ c ∷ bs) ≡ Bad (reason (classAt kind (total kind (hexAt 4 2 (b ∷ c ∷ bs))) at))
+  refuses : (at : ℕ) → FirstFails kind (total kind (hexAt 4 2 (b ∷ c ∷ bs))) at (b ∷ c ∷ bs)
+      → judge sirad 0 (b ∷ c ∷ bs) ≡ Bad (reason (classAt kind (total kind (hexAt 4 2 (b ∷ c ∷ bs))) at))
   refuses at f = go (shape kind (hexFrom 0 (take 4 bs)) l m)
     where
-      by : (h : Shape kind (hexFrom 0 (take 4 bs))) (a : ℕ) → FirstFails kind (suc (suc (h .bytes))) a (b ∷ c ∷ bs) → judge sirad 0 (b ∷ c ∷ bs) ≡ Bad (reason (classAt kind (suc (suc (h .bytes))) a))
+      by : (h : Shape kind (hexFrom 0 (take 4 bs))) (a : ℕ) → FirstFails kind (suc (suc (h .bytes))) a (b ∷ c ∷ bs)
+          → judge sirad 0 (b ∷ c ∷ bs) ≡ Bad (reason (classAt kind (suc (suc (h .bytes))) a))
       by h zero g = absurd (omega (arith, g .behind))
       by h (suc zero) g = absurd (omega (arith, g .behind))
       by h (suc (suc a)) g =
           let d : 2 + a ≡ suc (suc a) = omega arith in
           columned h
           ∙ fails-column (classAt kind (suc (suc (h .bytes)))) 2 (h .bytes) kind 2 a bs (omega (arith, g .there)) (omega (arith, g .inside))
-          (λ j k. let d : 2 + j ≡ suc (suc j) = omega arith in ap (λ (x : ℕ). accepts (classAt kind (suc (suc (h .bytes))) x) (getD bs j 0)) d ∙ g .passed (suc (suc j)) (omega arith) (omega arith))
+          (λ j k. let d : 2 + j ≡ suc (suc j) = omega arith in
+          ap (λ (x : ℕ). accepts (classAt kind (suc (suc (h .bytes))) x) (getD bs j 0)) d
+          ∙ g .passed (suc (suc j)) (omega arith) (omega arith))
           (ap (λ (x : ℕ). accepts (classAt kind (suc (suc (h .bytes))) x) (getD bs a 0)) d ∙ g .fails)
           ∙ ap (λ (x : ℕ). Bad (reason (classAt kind (suc (suc (h .bytes))) x))) d
 
-      go : Shape kind (hexFrom 0 (take 4 bs)) → judge sirad 0 (b ∷ c ∷ bs) ≡ Bad (reason (classAt kind (total kind (hexAt 4 2 (b ∷ c ∷ bs))) at))
-      go h = by h at (subst (λ (t : ℕ). FirstFails kind t at (b ∷ c ∷ bs)) (h .whole-size) f) ∙ ap (λ (t : ℕ). Bad (reason (classAt kind t at))) (sym (h .whole-size))
+      go : Shape kind (hexFrom 0 (take 4 bs))
+          → judge sirad 0 (b ∷ c ∷ bs) ≡ Bad (reason (classAt kind (total kind (hexAt 4 2 (b ∷ c ∷ bs))) at))
+      go h = by h at (subst (λ (t : ℕ). FirstFails kind t at (b ∷ c ∷ bs)) (h .whole-size) f)
+          ∙ ap (λ (t : ℕ). Bad (reason (classAt kind t at))) (sym (h .whole-size))
 
 refused-bad : (bs : List ℕ) (r : ℕ) → Refused bs r → judge sirad 0 bs ≡ Bad r
 refused-bad bs r (no-start h e) = sym (judge-no-start bs h e)
@@ -180,7 +197,8 @@ refused-bad (b ∷ []) r (no-member kind at l m s e f) = absurd (named-there kin
 refused-bad (b ∷ c ∷ bs) r (no-member kind at l m s e f) = refuses kind b c bs l m s e at f
 
 bad-refused : (bs : List ℕ) (r : ℕ) → judge sirad 0 bs ≡ Bad r → Refused bs r
-bad-refused [] r j = let w : Waiting ≡ judge sirad 0 [] = judge-none [] (omega arith) in let z : _≡_ {A = ℕ} 0 1 = cc in absurd (omega arith)
+bad-refused [] r j = let w : Waiting ≡ judge sirad 0 [] = judge-none [] (omega arith) in let z : _≡_ {A = ℕ} 0 1 = cc in
+    absurd (omega arith)
 bad-refused (b ∷ bs) r j = test (eqb b 33) (λ h. started bs (eqb-true b 33 h) j) (λ h. other (eqb-false b 33 h))
   where
     other : (b ≡ 33 → ⊥) → Refused (b ∷ bs) r
@@ -190,7 +208,8 @@ bad-refused (b ∷ bs) r j = test (eqb b 33) (λ h. started bs (eqb-true b 33 h)
     started [] s j = let w = judge-start (b ∷ []) (omega arith) s (omega arith) in let z : _≡_ {A = ℕ} 0 1 = cc in absurd (omega arith)
     started (c ∷ bs) s j =
         identify c (λ kind l m e. member kind b c bs l m s e r j)
-        (λ u. subst (Refused (b ∷ c ∷ bs)) (sym (same-bad 11 r (judge-unknown (b ∷ c ∷ bs) (omega arith) s u ∙ j))) (no-identifier (omega arith) s (not-identifier c u)))
+        (λ u. subst (Refused (b ∷ c ∷ bs)) (sym (same-bad 11 r (judge-unknown (b ∷ c ∷ bs) (omega arith) s u ∙ j)))
+        (no-identifier (omega arith) s (not-identifier c u)))
 
 -- judged bad with a reason exactly if the table refuses the bytes with it: the first byte that fails gives the reason
 pub bad-by-table : (bs : List ℕ) (r : ℕ) → (judge sirad 0 bs ≡ Bad r) ↔ Refused bs r

@@ -37,20 +37,23 @@ passes-lay (c ∷ cs) v k (b ∷ bs) p e = (p .0, passes-lay cs v k bs (p .1) e)
 
 module _ (h : ℕ → Form) (cs : ℕ → List Class) (k : ℕ) where
   -- n digits, and then what their number says
-  number-passes : (n v : ℕ) (bs : List ℕ) → ((m : ℕ) (bs : List ℕ) → Frame (h m) k bs → Passes (cs m) bs) → Frame (number n v >>= h) k bs → Passes (replicate n Hex ++ cs (hexFrom v (take n bs))) bs
+  number-passes : (n v : ℕ) (bs : List ℕ) → ((m : ℕ) (bs : List ℕ) → Frame (h m) k bs → Passes (cs m) bs) → Frame (number n v >>= h) k bs
+      → Passes (replicate n Hex ++ cs (hexFrom v (take n bs))) bs
   unfolding number Frame Passes hexFrom _>>=_
   number-passes zero v bs g f = g v bs f
   number-passes (suc n) v [] g f = absurd f
   number-passes (suc n) v (b ∷ bs) g f = (f .0, number-passes n (v * 16 + digit b) bs g (f .1))
 
-  passes-number : (n v : ℕ) (bs : List ℕ) → ((m : ℕ) (bs : List ℕ) → Passes (cs m) bs → Frame (h m) k bs) → Passes (replicate n Hex ++ cs (hexFrom v (take n bs))) bs → Frame (number n v >>= h) k bs
+  passes-number : (n v : ℕ) (bs : List ℕ) → ((m : ℕ) (bs : List ℕ) → Passes (cs m) bs → Frame (h m) k bs)
+      → Passes (replicate n Hex ++ cs (hexFrom v (take n bs))) bs → Frame (number n v >>= h) k bs
   unfolding number Frame Passes hexFrom _>>=_
   passes-number zero v bs g p = g v bs p
   passes-number (suc n) v [] g p = absurd p
   passes-number (suc n) v (b ∷ bs) g p = (p .0, passes-number n (v * 16 + digit b) bs g (p .1))
 
 -- what holds whatever the number of n digits says
-number-then : (h : ℕ → Form) (k n v : ℕ) {A : Type 0} (bs : List ℕ) → ((m : ℕ) (bs : List ℕ) → Frame (h m) k bs → A) → Frame (number n v >>= h) k bs → A
+number-then : (h : ℕ → Form) (k n v : ℕ) {A : Type 0} (bs : List ℕ) → ((m : ℕ) (bs : List ℕ) → Frame (h m) k bs → A)
+    → Frame (number n v >>= h) k bs → A
 unfolding number Frame _>>=_
 number-then h k zero v bs g f = g v bs f
 number-then h k (suc n) v [] g f = absurd f
@@ -59,13 +62,16 @@ number-then h k (suc n) v (b ∷ bs) g f = number-then h k n (v * 16 + digit b) 
 sized-passes : (v k : ℕ) (bs : List ℕ) → Frame (sized v) k bs → Passes (classes (rPieces (hexFrom 0 (take 4 bs)))) bs × (v ≡ k)
 unfolding classes
 sized-passes v k bs f = (
-  number-passes (λ n. row (dataPieces n) v) (λ n. classes (dataPieces n)) k 4 0 bs (λ m xs g. lay-passes (classes (dataPieces m)) v k xs g .0) f,
+  number-passes (λ n. row (dataPieces n) v) (λ n. classes (dataPieces n)) k 4 0 bs
+      (λ m xs g. lay-passes (classes (dataPieces m)) v k xs g .0) f,
   number-then (λ n. row (dataPieces n) v) k 4 0 bs (λ m xs g. lay-passes (classes (dataPieces m)) v k xs g .1) f,
 )
 
 passes-sized : (v k : ℕ) (bs : List ℕ) → Passes (classes (rPieces (hexFrom 0 (take 4 bs)))) bs → v ≡ k → Frame (sized v) k bs
 unfolding classes
-passes-sized v k bs p e = passes-number (λ n. row (dataPieces n) v) (λ n. classes (dataPieces n)) k 4 0 bs (λ m xs g. passes-lay (classes (dataPieces m)) v k xs g e) p
+passes-sized v k bs p e =
+    passes-number (λ n. row (dataPieces n) v) (λ n. classes (dataPieces n)) k 4 0 bs
+    (λ m xs g. passes-lay (classes (dataPieces m)) v k xs g e) p
 
 -- -- The identifier
 
@@ -103,10 +109,13 @@ unknown c n = identify c (λ kind l m e. absurd (n kind l m e)) (λ u. u)
 
 -- -- The form and the rows
 
-made : (v k b c : ℕ) (bs : List ℕ) → 1 ≤ v → v ≤ 6 → b ≡ 33 → c ≡ identifier v → Passes (classes (rowOf v (hexFrom 0 (take 4 bs)))) bs × (v ≡ k) → RowFrame k (b ∷ c ∷ bs)
-made v k b c bs s m e i p = subst (λ (k : ℕ). RowFrame k (b ∷ c ∷ bs)) (p .1) (record { some = s; most = m; start = e; named = i; passes = p .0 })
+made : (v k b c : ℕ) (bs : List ℕ) → 1 ≤ v → v ≤ 6 → b ≡ 33 → c ≡ identifier v
+    → Passes (classes (rowOf v (hexFrom 0 (take 4 bs)))) bs × (v ≡ k) → RowFrame k (b ∷ c ∷ bs)
+made v k b c bs s m e i p =
+    subst (λ (k : ℕ). RowFrame k (b ∷ c ∷ bs)) (p .1) (record { some = s; most = m; start = e; named = i; passes = p .0 })
 
-row-as : (kind k b c : ℕ) (bs : List ℕ) → 1 ≤ kind → kind ≤ 6 → b ≡ 33 → c ≡ identifier kind → Frame (body (kindOf (identifier kind))) k bs → RowFrame k (b ∷ c ∷ bs)
+row-as : (kind k b c : ℕ) (bs : List ℕ) → 1 ≤ kind → kind ≤ 6 → b ≡ 33 → c ≡ identifier kind → Frame (body (kindOf (identifier kind))) k bs
+    → RowFrame k (b ∷ c ∷ bs)
 unfolding body
 row-as zero k b c bs l m s e f = absurd (omega arith)
 row-as (suc zero) k b c bs l m s e f = made 1 k b c bs l m s e (sized-passes 1 k bs f)
@@ -129,11 +138,14 @@ form-row k [] f = absurd f
 form-row k (b ∷ []) f = absurd (f .1)
 form-row k (b ∷ c ∷ bs) f = row-of b c k bs (eqb-true b 33 (f .0)) (f .1 .0) (f .1 .1)
 
-framed : (k b c : ℕ) (bs : List ℕ) (d : ℕ) → b ≡ 33 → c ≡ d → known (kindOf d) ≡ true → Frame (body (kindOf d)) k bs → Frame sirad k (b ∷ c ∷ bs)
+framed : (k b c : ℕ) (bs : List ℕ) (d : ℕ) → b ≡ 33 → c ≡ d → known (kindOf d) ≡ true → Frame (body (kindOf d)) k bs
+    → Frame sirad k (b ∷ c ∷ bs)
 unfolding sirad _>>=_ Frame
-framed k b c bs d s e t f = (eq-eqb b 33 s, (ap (λ (x : ℕ). known (kindOf x)) e ∙ t, subst (λ (x : ℕ). Frame (body (kindOf x)) k bs) (sym e) f))
+framed k b c bs d s e t f =
+    (eq-eqb b 33 s, (ap (λ (x : ℕ). known (kindOf x)) e ∙ t, subst (λ (x : ℕ). Frame (body (kindOf x)) k bs) (sym e) f))
 
-framed-as : (k b c : ℕ) (bs : List ℕ) → 1 ≤ k → k ≤ 6 → b ≡ 33 → c ≡ identifier k → Passes (classes (rowOf k (hexFrom 0 (take 4 bs)))) bs → Frame sirad k (b ∷ c ∷ bs)
+framed-as : (k b c : ℕ) (bs : List ℕ) → 1 ≤ k → k ≤ 6 → b ≡ 33 → c ≡ identifier k → Passes (classes (rowOf k (hexFrom 0 (take 4 bs)))) bs
+    → Frame sirad k (b ∷ c ∷ bs)
 unfolding body
 framed-as zero b c bs l m s e p = absurd (omega arith)
 framed-as (suc zero) b c bs l m s e p = framed 1 b c bs 82 s e refl (passes-sized 1 1 bs p refl)
@@ -141,7 +153,8 @@ framed-as (suc (suc zero)) b c bs l m s e p = framed 2 b c bs 80 s e refl (passe
 framed-as (suc (suc (suc zero))) b c bs l m s e p = framed 3 b c bs 67 s e refl (passes-sized 3 3 bs p refl)
 framed-as (suc (suc (suc (suc zero)))) b c bs l m s e p = framed 4 b c bs 84 s e refl (passes-lay (classes tPieces) 4 4 bs p refl)
 framed-as (suc (suc (suc (suc (suc zero))))) b c bs l m s e p = framed 5 b c bs 85 s e refl (passes-lay (classes uPieces) 5 5 bs p refl)
-framed-as (suc (suc (suc (suc (suc (suc zero)))))) b c bs l m s e p = framed 6 b c bs 69 s e refl (passes-lay (classes ePieces) 6 6 bs p refl)
+framed-as (suc (suc (suc (suc (suc (suc zero)))))) b c bs l m s e p =
+    framed 6 b c bs 69 s e refl (passes-lay (classes ePieces) 6 6 bs p refl)
 framed-as (suc (suc (suc (suc (suc (suc (suc k))))))) b c bs l m s e p = absurd (omega arith)
 
 -- no kind from 1 to 6 has the identifier 0
@@ -160,7 +173,3 @@ pub row-form : (k : ℕ) (bs : List ℕ) → RowFrame k bs → Frame sirad k bs
 row-form k [] r = let z : _≡_ {A = ℕ} 0 33 = r .start in absurd (omega arith)
 row-form k (b ∷ []) r = absurd (named-there k (r .some) (r .most) (r .named))
 row-form k (b ∷ c ∷ bs) r = framed-as k b c bs (r .some) (r .most) (r .start) (r .named) (r .passes)
-
--- a frame of the form is one by its row of pieces
-pub row-is-form : (k : ℕ) (bs : List ℕ) → Frame sirad k bs ↔ RowFrame k bs
-row-is-form k bs = (form-row k bs, row-form k bs)

@@ -38,14 +38,16 @@ whole-here v at s = refl
 
 -- -- Runs
 
-run-first : (n : ℕ) (c : Class) (at : ℕ) (s : List ℕ) → 0 < n → judgeAt (run n c) at s ≡ judgeAt (one (reason c) (accepts c) >>= (λ _. run (n - 1) c)) at s
+run-first : (n : ℕ) (c : Class) (at : ℕ) (s : List ℕ) → 0 < n
+    → judgeAt (run n c) at s ≡ judgeAt (one (reason c) (accepts c) >>= (λ _. run (n - 1) c)) at s
 unfolding run _>>=_
 run-first zero c at s h = absurd (omega arith)
 run-first (suc n) c at s h = let e : suc n - 1 ≡ n = omega arith in rw e
 
 module _ (n : ℕ) (c : Class) (at : ℕ) (s : List ℕ) where
   -- the next byte passes: the rest is left
-  pub run-next : {r : Judgement} {v e : ℕ} → 0 < n → r ≡ judgeAt (one (reason c) (accepts c)) at s → r ≡ Whole v e → judgeAt (run n c) at s ≡ judgeAt (run (n - 1) c) e s
+  pub run-next : {r : Judgement} {v e : ℕ} → 0 < n → r ≡ judgeAt (one (reason c) (accepts c)) at s → r ≡ Whole v e
+      → judgeAt (run n c) at s ≡ judgeAt (run (n - 1) c) e s
   run-next h a b = run-first n c at s h ∙ go-on _ _ _ _ a b
 
   -- the next byte does not pass: its judgement is that of the run
@@ -67,7 +69,8 @@ run-split (suc m) (suc n) c h =
 
 module _ (m n : ℕ) (c : Class) (at : ℕ) (s : List ℕ) (h : m ≤ n) where
   -- the first m bytes pass: the others are left
-  pub part-next : {r : Judgement} {v e : ℕ} → r ≡ judgeAt (run m c) at s → r ≡ Whole v e → judgeAt (run n c) at s ≡ judgeAt (run (n - m) c) e s
+  pub part-next : {r : Judgement} {v e : ℕ} → r ≡ judgeAt (run m c) at s → r ≡ Whole v e
+      → judgeAt (run n c) at s ≡ judgeAt (run (n - m) c) e s
   part-next a b = ap (λ (p : Form). judgeAt p at s) (run-split m n c h) ∙ go-on _ _ _ _ a b
 
   -- one of the first m bytes does not pass
@@ -99,7 +102,8 @@ module _ (s : List ℕ) (from n : ℕ) (c : Class) where
       ∙ ap (λ (p : ℕ). judgeAt (run (n - (i + 1)) c) p s) b
 
   -- one byte more, and the flag with its test
-  pub seen-next : (i : ℕ) (ok t ok′ : Bool) → i < n → from + n ≤ length s → (ok ≡ true → Seen i) → t ≡ accepts c (getD s (from + i) 0) → ok′ ≡ (ok && t) → ok′ ≡ true → Seen (i + 1)
+  pub seen-next : (i : ℕ) (ok t ok′ : Bool) → i < n → from + n ≤ length s → (ok ≡ true → Seen i) → t ≡ accepts c (getD s (from + i) 0)
+      → ok′ ≡ (ok && t) → ok′ ≡ true → Seen (i + 1)
   seen-next i ok t ok′ h l inv a b y =
       seen-step i h l (sym a ∙ and-right ok t (sym b ∙ y)) (inv (and-left ok t (sym b ∙ y)))
 

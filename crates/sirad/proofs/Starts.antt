@@ -54,7 +54,8 @@ number-refuses (suc n) v = (refl, λ b. number-refuses n (v * 16 + digit b))
 
 body-refuses : (k : Kind) → Refuses (body k)
 unfolding body Refuses
-body-refuses (Sized kind) = refuses-then (number 4 0) (λ n. row (dataPieces n) kind) (number-refuses 4 0) (λ n. lay-refuses (classes (dataPieces n)) kind)
+body-refuses (Sized kind) =
+    refuses-then (number 4 0) (λ n. row (dataPieces n) kind) (number-refuses 4 0) (λ n. lay-refuses (classes (dataPieces n)) kind)
 body-refuses Targets = lay-refuses (classes tPieces) 4
 body-refuses Status = lay-refuses (classes uPieces) 5
 body-refuses Flags = lay-refuses (classes ePieces) 6
@@ -98,12 +99,6 @@ behind-refuses : Refuses behind
 unfolding behind Refuses
 behind-refuses = (refl, λ b. body-refuses (kindOf b))
 
--- a frame's first byte is 33
-pub frame-starts : (k : ℕ) (bs : List ℕ) → Frame sirad k bs → getD bs 0 0 ≡ 33
-unfolding sirad _>>=_ Frame
-frame-starts k [] f = absurd f
-frame-starts k (b ∷ bs) f = eqb-true b 33 (f .0)
-
 -- no other byte of a frame is 33
 pub frame-starts-once : (k : ℕ) (bs : List ℕ) → Frame sirad k bs → (i : ℕ) → 1 ≤ i → i < length bs → getD bs i 0 ≡ 33 → ⊥
 unfolding sirad _>>=_ Frame behind
@@ -124,7 +119,8 @@ waiting-starts-once (b ∷ bs) h (suc i) p l e = go (eqb b 33) h
 
 -- a judgement looks no further than the next 33
 pub stops-at-start : (bs : List ℕ) (i : ℕ) → 1 ≤ i → i < length bs → getD bs i 0 ≡ 33 → judge sirad 0 bs ≡ judge sirad 0 (take (suc i) bs)
-stops-at-start bs i p l e = ap (judge sirad 0) (sym (take-append-drop (suc i) bs)) ∙ judgement-kept sirad 0 (take (suc i) bs) (drop (suc i) bs) settled
+stops-at-start bs i p l e =
+    ap (judge sirad 0) (sym (take-append-drop (suc i) bs)) ∙ judgement-kept sirad 0 (take (suc i) bs) (drop (suc i) bs) settled
   where
     settled : judge sirad 0 (take (suc i) bs) ≡ Waiting → ⊥
     settled h =

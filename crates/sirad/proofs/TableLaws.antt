@@ -37,7 +37,8 @@ column-length f i zero (b ∷ bs) p = absurd p
 column-length f i (suc n) [] p = absurd p
 column-length f i (suc n) (b ∷ bs) p = ap suc (column-length f (suc i) n bs (p .1))
 
-column-each : (f : ℕ → Class) (i n : ℕ) (bs : List ℕ) → Passes (column f i n) bs → (j : ℕ) → j < length bs → accepts (f (i + j)) (getD bs j 0) ≡ true
+column-each : (f : ℕ → Class) (i n : ℕ) (bs : List ℕ) → Passes (column f i n) bs → (j : ℕ) → j < length bs
+    → accepts (f (i + j)) (getD bs j 0) ≡ true
 unfolding column Passes
 column-each f i zero [] p j l = absurd (omega arith)
 column-each f i zero (b ∷ bs) p j l = absurd p
@@ -47,7 +48,8 @@ column-each f i (suc n) (b ∷ bs) p (suc j) l =
     let e : i + suc j ≡ suc i + j = omega arith in
     ap (λ (x : ℕ). accepts (f x) (getD bs j 0)) e ∙ column-each f (suc i) n bs (p .1) j (omega arith)
 
-each-column : (f : ℕ → Class) (i n : ℕ) (bs : List ℕ) → length bs ≡ n → ((j : ℕ) → j < length bs → accepts (f (i + j)) (getD bs j 0) ≡ true) → Passes (column f i n) bs
+each-column : (f : ℕ → Class) (i n : ℕ) (bs : List ℕ) → length bs ≡ n → ((j : ℕ) → j < length bs → accepts (f (i + j)) (getD bs j 0) ≡ true)
+    → Passes (column f i n) bs
 unfolding column Passes
 each-column f i zero [] l h = tt
 each-column f i zero (b ∷ bs) l h = absurd (omega arith)
@@ -58,7 +60,8 @@ each-column f i (suc n) (b ∷ bs) l h =
     next : (j : ℕ) → j < length bs → accepts (f (suc i + j)) (getD bs j 0) ≡ true
     next j s = let e : suc i + j ≡ i + suc j = omega arith in ap (λ (x : ℕ). accepts (f x) (getD bs j 0)) e ∙ h (suc j) (omega arith)
 
-characters-column : (f : ℕ → Class) (i m : ℕ) → ((j : ℕ) → i ≤ j → j < i + m → f j ≡ Char) → f (i + m) ≡ Cr → f (suc (i + m)) ≡ Lf → classes (characters m) ≡ column f i (suc (suc m))
+characters-column : (f : ℕ → Class) (i m : ℕ) → ((j : ℕ) → i ≤ j → j < i + m → f j ≡ Char) → f (i + m) ≡ Cr → f (suc (i + m)) ≡ Lf
+    → classes (characters m) ≡ column f i (suc (suc m))
 unfolding column classes characters
 characters-column f i zero h c l = ends
   where
@@ -106,9 +109,13 @@ module _ (kind n : ℕ) (k : kind ≤ 3) where
       rest : classes (characters n) ≡ column (classAt kind size) 14 (suc (suc n))
       rest = characters-column (classAt kind size) 14 n (λ j a b. characters-at j (omega arith) b) cr-at lf-at
 
-      first : classes (rPieces n) ≡ column (classAt kind size) 2 (suc (suc (suc (suc (suc (suc (suc (suc (suc (suc (suc (suc (suc (suc n))))))))))))))
+      first : classes (rPieces n) ≡ column (classAt kind size) 2
+          (suc (suc (suc (suc (suc (suc (suc (suc (suc (suc (suc (suc (suc (suc n))))))))))))))
       first = λ t. digits-at 2 (omega arith) t ∷ digits-at 3 (omega arith) t ∷ digits-at 4 (omega arith) t ∷ digits-at 5 (omega arith) t
-          ∷ character-at 6 (omega arith) (omega arith) t ∷ character-at 7 (omega arith) (omega arith) t ∷ character-at 8 (omega arith) (omega arith) t ∷ character-at 9 (omega arith) (omega arith) t ∷ character-at 10 (omega arith) (omega arith) t ∷ character-at 11 (omega arith) (omega arith) t ∷ character-at 12 (omega arith) (omega arith) t ∷ character-at 13 (omega arith) (omega arith) t
+          ∷ character-at 6 (omega arith) (omega arith) t ∷ character-at 7 (omega arith) (omega arith) t
+          ∷ character-at 8 (omega arith) (omega arith) t ∷ character-at 9 (omega arith) (omega arith) t
+          ∷ character-at 10 (omega arith) (omega arith) t ∷ character-at 11 (omega arith) (omega arith) t
+          ∷ character-at 12 (omega arith) (omega arith) t ∷ character-at 13 (omega arith) (omega arith) t
           ∷ rest t
 
 -- the classes of a kind's row are the table's
@@ -148,7 +155,15 @@ row-table k (b ∷ []) r = absurd (named-there k (r .some) (r .most) (r .named))
 row-table k (b ∷ c ∷ bs) r = go (shape k (hexAt 4 2 (b ∷ c ∷ bs)) (r .some) (r .most))
   where
     go : Shape k (hexAt 4 2 (b ∷ c ∷ bs)) → TableFrame k (b ∷ c ∷ bs)
-    go s = record { some = r .some; most = r .most; size = ap (λ (n : ℕ). suc (suc n)) long ∙ sym (s .whole-size); start = r .start; named = r .named; each = each }
+    go s = record {
+      some = r .some;
+      most = r .most;
+      size = ap (λ (n : ℕ). suc (suc n)) long
+          ∙ sym (s .whole-size);
+      start = r .start;
+      named = r .named;
+      each = each;
+    }
       where
         p : Passes (column (classAt k (suc (suc (s .bytes)))) 2 (s .bytes)) bs
         p = subst (λ (cs : List Class). Passes cs bs) (s .column-is) (r .passes)
@@ -171,7 +186,13 @@ table-row k (b ∷ []) f = absurd (named-there k (f .some) (f .most) (f .named))
 table-row k (b ∷ c ∷ bs) f = go (shape k (hexAt 4 2 (b ∷ c ∷ bs)) (f .some) (f .most))
   where
     go : Shape k (hexAt 4 2 (b ∷ c ∷ bs)) → RowFrame k (b ∷ c ∷ bs)
-    go s = record { some = f .some; most = f .most; start = f .start; named = f .named; passes = subst (λ (cs : List Class). Passes cs bs) (sym (s .column-is)) p }
+    go s = record {
+      some = f .some;
+      most = f .most;
+      start = f .start;
+      named = f .named;
+      passes = subst (λ (cs : List Class). Passes cs bs) (sym (s .column-is)) p;
+    }
       where
         long : length bs ≡ s .bytes
         long = omega (arith, f .size, s .whole-size)
@@ -192,11 +213,7 @@ table-is-form k bs = ((λ f. row-table k bs (form-row k bs f)), (λ f. row-form 
 
 -- -- What field readers go by
 
--- bytes that are judged whole from first to last are a frame of the table, and only those
-pub whole-by-table : (k : ℕ) (bs : List ℕ) → (judge sirad 0 bs ≡ Whole k (length bs)) ↔ TableFrame k bs
-whole-by-table k bs = ((λ h. table-is-form k bs .0 (judged-frame sirad k bs h)), (λ f. frame-whole sirad k bs (table-is-form k bs .1 f)))
-
--- the same by the row of pieces
+-- whole exactly if the bytes pass the row of pieces of their kind
 pub whole-by-row : (k : ℕ) (bs : List ℕ) → (judge sirad 0 bs ≡ Whole k (length bs)) ↔ RowFrame k bs
 whole-by-row k bs = ((λ h. form-row k bs (judged-frame sirad k bs h)), (λ r. frame-whole sirad k bs (row-form k bs r)))
 
@@ -205,22 +222,20 @@ pub frame-length : (k : ℕ) (bs : List ℕ) → Frame sirad k bs → length bs 
 frame-length k bs f = table-is-form k bs .0 f .size
 
 -- byte i of a frame is of the class that the table gives
-pub frame-class : (k : ℕ) (bs : List ℕ) → Frame sirad k bs → (i : ℕ) → 2 ≤ i → i < length bs → accepts (classAt k (length bs) i) (getD bs i 0) ≡ true
+pub frame-class : (k : ℕ) (bs : List ℕ) → Frame sirad k bs → (i : ℕ) → 2 ≤ i → i < length bs
+    → accepts (classAt k (length bs) i) (getD bs i 0) ≡ true
 frame-class k bs f = table-is-form k bs .0 f .each
 
 -- every frame is of one of the six kinds
 pub frame-kind : (k : ℕ) (bs : List ℕ) → Frame sirad k bs → (1 ≤ k) × (k ≤ 6)
 frame-kind k bs f = let r = form-row k bs f in (r .some, r .most)
 
--- the bytes behind the identifier follow the row of the kind
-pub frame-row : (k : ℕ) (bs : List ℕ) → Frame sirad k bs → Passes (classes (rowOf k (hexAt 4 2 bs))) (drop 2 bs)
-frame-row k bs f = form-row k bs f .passes
-
 -- no frame is shorter than 8 bytes
 pub total-least : (k n : ℕ) → 8 ≤ total k n
 total-least k n =
     test (leb k 3) (λ h. rw h (omega arith))
-    (λ h. test (eqb k 4) (λ g. rw (h, g) (omega arith)) (λ g. test (eqb k 5) (λ f. rw (h, g, f) (omega arith)) (λ f. rw (h, g, f) (omega arith))))
+    (λ h. test (eqb k 4) (λ g. rw (h, g) (omega arith))
+    (λ g. test (eqb k 5) (λ f. rw (h, g, f) (omega arith)) (λ f. rw (h, g, f) (omega arith))))
 
 size-kept : (n : ℕ) (bs : List ℕ) → 6 ≤ n → hexAt 4 2 (take n bs) ≡ hexAt 4 2 bs
 size-kept n bs h = let e : n ≡ suc (suc (suc (suc (suc (suc (n - 6)))))) = omega arith in rw e (kept bs)

@@ -1,4 +1,5 @@
--- What holds of every form, of the SiRad wire. Each class of bytes has a member, so the form is live; it has no four-byte field, so nothing is said of those.
+-- What holds of every form, of the SiRad wire. Each class of bytes has a member, so the form is live; it has no four-byte field, so nothing
+-- is said of those.
 use mathlib.Core.Bool.{true}
 use mathlib.Core.Path.{_≡_, refl}
 use mathlib.Core.List.{List, [], _∷_, _++_}
@@ -12,7 +13,8 @@ use Rattle.form.specs.declared.Judgement.the-variants.{Whole, Waiting}
 use Rattle.form.specs.Form.{_>>=_, judge, Stands, Completable, Live, Plain, Begins}
 use Rattle.form.specs.Judging.{Lawful}
 use Rattle.form.proofs.Lives.{live-then, plain-then, plain-outside}
-use Rattle.form.proofs.Theorems.{whole-exactly-if-stands, stands-once, judgement-kept, waits-exactly, empty-waits, whole-fits, whole-not-empty, Settled, looks-no-further, lawful}
+use Rattle.form.proofs.Theorems.{whole-exactly-if-stands, stands-once, judgement-kept, waits-exactly, empty-waits, whole-fits}
+use Rattle.form.proofs.Theorems.{whole-not-empty, Settled, looks-no-further, lawful}
 use Rattle.sirad.specs.declared.Class.{Class}
 use Rattle.sirad.specs.declared.Class.the-variants.{Hex, Char, Cr, Lf}
 use Rattle.sirad.specs.declared.Kind.{Kind}
@@ -20,7 +22,6 @@ use Rattle.sirad.specs.declared.Kind.the-variants.{Sized, Targets, Statu
 use Rattle.sirad.specs.Classes.{accepts}
 use Rattle.sirad.specs.Rows.{classes, dataPieces, tPieces, uPieces, ePieces, characters}
 use Rattle.sirad.specs.Sirad.{lay, row, number, kindOf, body, sirad}
-use Rattle.sirad.specs.Edges.{edges, Hold}
 
 -- -- Live and plain
 
@@ -52,7 +53,8 @@ number-plain (suc n) v = λ b. number-plain n (v * 16 + digit b)
 
 body-live : (k : Kind) → Live (body k)
 unfolding body Live
-body-live (Sized kind) = live-then (number 4 0) (λ n. row (dataPieces n) kind) (number-live 4 0) (λ n. lay-live (classes (dataPieces n)) kind)
+body-live (Sized kind) =
+    live-then (number 4 0) (λ n. row (dataPieces n) kind) (number-live 4 0) (λ n. lay-live (classes (dataPieces n)) kind)
 body-live Targets = lay-live (classes tPieces) 4
 body-live Status = lay-live (classes uPieces) 5
 body-live Flags = lay-live (classes ePieces) 6
@@ -60,7 +62,8 @@ body-live Unknown = tt
 
 body-plain : (k : Kind) → Plain (body k)
 unfolding body Plain
-body-plain (Sized kind) = plain-then (number 4 0) (λ n. row (dataPieces n) kind) (number-plain 4 0) (λ n. lay-plain (classes (dataPieces n)) kind)
+body-plain (Sized kind) =
+    plain-then (number 4 0) (λ n. row (dataPieces n) kind) (number-plain 4 0) (λ n. lay-plain (classes (dataPieces n)) kind)
 body-plain Targets = lay-plain (classes tPieces) 4
 body-plain Status = lay-plain (classes uPieces) 5
 body-plain Flags = lay-plain (classes ePieces) 6
@@ -83,45 +86,10 @@ sirad-begins = tt
 
 -- -- The judgement
 
--- judged whole with kind and length exactly if a frame of that kind and length stands
-pub sirad-whole : (k n : ℕ) (bs : List ℕ) → (judge sirad 0 bs ≡ Whole k n) ↔ Stands sirad k n bs
-sirad-whole k n bs = whole-exactly-if-stands sirad k n bs
-
--- at most one frame stands at a place
-pub sirad-once : (k₁ n₁ k₂ n₂ : ℕ) (bs : List ℕ) → Stands sirad k₁ n₁ bs → Stands sirad k₂ n₂ bs → (k₁ ≡ k₂) × (n₁ ≡ n₂)
-sirad-once k₁ n₁ k₂ n₂ bs a b = stands-once sirad k₁ n₁ k₂ n₂ bs a b
-
--- whole and bad judgements are kept when any bytes are appended
-pub sirad-kept : (bs more : List ℕ) → (judge sirad 0 bs ≡ Waiting → ⊥) → judge sirad 0 (bs ++ more) ≡ judge sirad 0 bs
-sirad-kept bs more d = judgement-kept sirad 0 bs more d
-
 -- waiting exactly if no frame stands and some further bytes complete one
 pub sirad-waits : (bs : List ℕ) → Bytes bs → (judge sirad 0 bs ≡ Waiting) ↔ Completable sirad bs
 sirad-waits bs s = waits-exactly sirad bs sirad-live s (plain-outside sirad bs sirad-plain)
 
--- the very end waits
-pub sirad-empty : judge sirad 0 [] ≡ Waiting
-sirad-empty = empty-waits sirad 0 sirad-begins
-
--- a whole frame lies within the bytes
-pub sirad-fits : (k n : ℕ) (bs : List ℕ) → judge sirad 0 bs ≡ Whole k n → n ≤ length bs
-sirad-fits k n bs h = whole-fits sirad k n bs h
-
--- a whole frame is not empty
-pub sirad-filled : (k n : ℕ) (bs : List ℕ) → judge sirad 0 bs ≡ Whole k n → 0 < n
-sirad-filled k n bs h = whole-not-empty sirad k n bs sirad-begins h
-
--- whole and bad are settled by the bytes up to the frame's end or the refused byte, and fewer wait
-pub sirad-looks-no-further : (bs : List ℕ) → (judge sirad 0 bs ≡ Waiting → ⊥) → Settled sirad bs
-sirad-looks-no-further bs d = looks-no-further sirad bs d
-
 -- readings can go by it
 pub sirad-lawful : Lawful (judge sirad 0)
 sirad-lawful = lawful sirad sirad-begins
-
--- -- Values at the edges
-
--- the starred lines
-pub edges-hold : Hold edges
-unfolding Hold sirad _>>=_ judge body number digit lay classes characters
-edges-hold = (refl, (refl, tt))

@@ -2,5 +2,4 @@ pub mod Classes
 pub mod Rows
 pub mod Sirad
 pub mod Table
-pub mod Edges
 pub mod Internal

@@ -1,4 +1,5 @@
--- Each frame's body as a row of pieces, from the byte behind the identifier to the stop marker (paper 01, "SiRad"; document 000, figures 4 to 6; document 003, error frame).
+-- Each frame's body as a row of pieces, from the byte behind the identifier to the stop marker
+-- (paper 01, "SiRad"; document 000, figures 4 to 6; document 003, error frame).
 -- The judgement, and the field readers and writers, go by these rows.
 use mathlib.Core.List.{List, [], _∷_, _++_}
 use mathlib.Core.Bool.{cond}

@@ -25,7 +25,8 @@ total kind n = cond (leb kind 3) (16 + n) (cond (eqb kind 4) 230 (cond (eqb kind
 abbrev pub blockClass : ℕ → Class
 blockClass j = cond (ltb j 5) Hex (cond (eqb j 5) Char (cond (ltb j 10) Hex Char))
 
--- column "Body": byte i of a frame, counted from its `!`. Kinds 1 to 3: size 2 to 5, then reserved and data; T: format 2, gain 3, blocks from 4 on; U: gain 3, else digits; E: digits
+-- column "Body": byte i of a frame, counted from its `!`. Kinds 1 to 3: size 2 to 5, then reserved and data;
+-- T: format 2, gain 3, blocks from 4 on; U: gain 3, else digits; E: digits
 abbrev pub bodyClass : ℕ → ℕ → Class
 bodyClass kind i =
     cond (leb kind 3) (cond (ltb i 6) Hex Char)
@@ -65,4 +66,5 @@ pub record FirstFails (kind size at : ℕ) (bs : List ℕ) : Type 0 where
 pub data Refused (bs : List ℕ) : ℕ → Type 0 where
   no-start : 1 ≤ length bs → (getD bs 0 0 ≡ 33 → ⊥) → Refused bs 10
   no-identifier : 2 ≤ length bs → getD bs 0 0 ≡ 33 → ((kind : ℕ) → 1 ≤ kind → kind ≤ 6 → getD bs 1 0 ≡ identifier kind → ⊥) → Refused bs 11
-  no-member : (kind at : ℕ) → 1 ≤ kind → kind ≤ 6 → getD bs 0 0 ≡ 33 → getD bs 1 0 ≡ identifier kind → FirstFails kind (total kind (hexAt 4 2 bs)) at bs → Refused bs (reason (classAt kind (total kind (hexAt 4 2 bs)) at))
+  no-member : (kind at : ℕ) → 1 ≤ kind → kind ≤ 6 → getD bs 0 0 ≡ 33 → getD bs 1 0 ≡ identifier kind
+      → FirstFails kind (total kind (hexAt 4 2 bs)) at bs → Refused bs (reason (classAt kind (total kind (hexAt 4 2 bs)) at))

@@ -195,8 +195,8 @@ fn kind_of(b: u8) -> Kind
     }
 }
 
-// The judgement of the bytes from their first on. `judge(b"!E0000\r\n")` is Whole(6, 8), `judge(b"!E00")` is Waiting, `judge(b"!e")` is Bad(11).
-// At an offset: `judge(&bytes[at..])`.
+// The judgement of the bytes from their first on; at an offset: `judge(&bytes[at..])`.
+// `judge(b"!E0000\r\n")` is Whole(6, 8), `judge(b"!E00")` is Waiting, `judge(b"!e")` is Bad(11).
 pub fn judge(bytes: &[u8]) -> Judgement
     ensures { λ r. ⌜ Judges sirad 0 (now (bytes .entry)) r ⌝ }
 {

@@ -30,292 +30,9 @@ abbrev walk-inside-below : ℕ → In 1 walk-inside-kinds.ps
 walk-inside-below t =
     and 1 walk-inside-kinds.ps (falls 1 walk-inside-kinds.ps _<_ μ-walk-inside t) walk-inside.Pre
 
-walk-inside-field-requires : (t : ℕ) → walk-inside-lts.Need-field-requires (
-  field-reads.Asked,
-  field-reads.Learnt,
-  rule-of-reads.Asked,
-  rule-of-reads.Learnt,
-  some-length-fits-reads.Asked,
-  some-length-fits-reads.Learnt,
-  length-passes-reads.Asked,
-  length-passes-reads.Learnt,
-  walk-inside-below t,
-  walk-inside.Post,
-) (walk-inside-at t) walk-inside.Post
-walk-inside-field-requires t c κs = search needs
-
-walk-inside-rule-of-requires : (t : ℕ) → walk-inside-lts.Need-rule-of-requires (
-  field-reads.Asked,
-  field-reads.Learnt,
-  rule-of-reads.Asked,
-  rule-of-reads.Learnt,
-  some-length-fits-reads.Asked,
-  some-length-fits-reads.Learnt,
-  length-passes-reads.Asked,
-  length-passes-reads.Learnt,
-  walk-inside-below t,
-  walk-inside.Post,
-) (walk-inside-at t) walk-inside.Post
-walk-inside-rule-of-requires t c κs = search needs
-
-walk-inside-some-length-fits-requires : (t : ℕ) → walk-inside-lts.Need-some-length-fits-requires (
-  field-reads.Asked,
-  field-reads.Learnt,
-  rule-of-reads.Asked,
-  rule-of-reads.Learnt,
-  some-length-fits-reads.Asked,
-  some-length-fits-reads.Learnt,
-  length-passes-reads.Asked,
-  length-passes-reads.Learnt,
-  walk-inside-below t,
-  walk-inside.Post,
-) (walk-inside-at t) walk-inside.Post
-walk-inside-some-length-fits-requires t c κs = search needs
-
-walk-inside-add-field : (t : ℕ) → walk-inside-lts.Need-add-field (
-  field-reads.Asked,
-  field-reads.Learnt,
-  rule-of-reads.Asked,
-  rule-of-reads.Learnt,
-  some-length-fits-reads.Asked,
-  some-length-fits-reads.Learnt,
-  length-passes-reads.Asked,
-  length-passes-reads.Learnt,
-  walk-inside-below t,
-  walk-inside.Post,
-) (walk-inside-at t) walk-inside.Post
-walk-inside-add-field t c = search needs
-
-walk-inside-field-requires-2 : (t : ℕ) → walk-inside-lts.Need-field-requires-2 (
-  field-reads.Asked,
-  field-reads.Learnt,
-  rule-of-reads.Asked,
-  rule-of-reads.Learnt,
-  some-length-fits-reads.Asked,
-  some-length-fits-reads.Learnt,
-  length-passes-reads.Asked,
-  length-passes-reads.Learnt,
-  walk-inside-below t,
-  walk-inside.Post,
-) (walk-inside-at t) walk-inside.Post
-walk-inside-field-requires-2 t c κs = search needs
-
-walk-inside-length-passes-requires : (t : ℕ) → walk-inside-lts.Need-length-passes-requires (
-  field-reads.Asked,
-  field-reads.Learnt,
-  rule-of-reads.Asked,
-  rule-of-reads.Learnt,
-  some-length-fits-reads.Asked,
-  some-length-fits-reads.Learnt,
-  length-passes-reads.Asked,
-  length-passes-reads.Learnt,
-  walk-inside-below t,
-  walk-inside.Post,
-) (walk-inside-at t) walk-inside.Post
-walk-inside-length-passes-requires t c κs = sym (c .before .before .some-length-fits .ensures) ∙ c .before .if1 .taken
-
-walk-inside-returns : (t : ℕ) → walk-inside-lts.Need-returns (
-  field-reads.Asked,
-  field-reads.Learnt,
-  rule-of-reads.Asked,
-  rule-of-reads.Learnt,
-  some-length-fits-reads.Asked,
-  some-length-fits-reads.Learnt,
-  length-passes-reads.Asked,
-  length-passes-reads.Learnt,
-  walk-inside-below t,
-  walk-inside.Post,
-) (walk-inside-at t) walk-inside.Post
-walk-inside-returns t c = let a = c .before .before .before .before .before .before .before .before .before .args in let h = c .before .before .before .before .before .before .before .before .before .pre .1 in let f = passed-fits mmWave mmWave-sound (c .before .before .before .before .before .before .before .before .before .args .objects) _ _ _ _ (λ e. omega (arith, e, c .before .before .before .before .before .before .before .before .before .pre .1 .0)) (sym (c .before .before .length-passes .ensures) ∙ c .before .if2 .taken) in
-    settled-more mmWave (a .objects) (a .k) (a .room) (a .at) (a .s .now) (λ e. omega (arith, e, c .before .before .before .before .before .before .before .before .before .pre .1 .0)) (c .before .before .before .before .before .before .before .field .ensures) (c .before .before .before .before .before .before .rule-of .ensures) (c .before .before .before .before .before .some-length-fits .ensures) (c .before .before .before .field2 .ensures) (c .before .before .length-passes .ensures) (c .before .before .before .before .if1 .taken) 0 f (h .1) (c .before .if2 .taken) (settled-none mmWave (a .objects) (a .k - 1) (a .room - c .before .before .before .field2 .result) (a .at + 8 + c .before .before .before .field2 .result) (a .s .now) (omega (arith, c .if3 .taken)) (omega (arith, f, h .0, h .1)))
-
-walk-inside-sub-walk-inside : (t : ℕ) → walk-inside-lts.Need-sub-walk-inside (
-  field-reads.Asked,
-  field-reads.Learnt,
-  rule-of-reads.Asked,
-  rule-of-reads.Learnt,
-  some-length-fits-reads.Asked,
-  some-length-fits-reads.Learnt,
-  length-passes-reads.Asked,
-  length-passes-reads.Learnt,
-  walk-inside-below t,
-  walk-inside.Post,
-) (walk-inside-at t) walk-inside.Post
-walk-inside-sub-walk-inside t c = search needs
-
-walk-inside-part-walk-inside-start : (t : ℕ) → walk-inside-lts.Need-part-walk-inside-start (
-  field-reads.Asked,
-  field-reads.Learnt,
-  rule-of-reads.Asked,
-  rule-of-reads.Learnt,
-  some-length-fits-reads.Asked,
-  some-length-fits-reads.Learnt,
-  length-passes-reads.Asked,
-  length-passes-reads.Learnt,
-  walk-inside-below t,
-  walk-inside.Post,
-) (walk-inside-at t) walk-inside.Post
-walk-inside-part-walk-inside-start t c = search needs
-
-walk-inside-part-walk-inside-end : (t : ℕ) → walk-inside-lts.Need-part-walk-inside-end (
-  field-reads.Asked,
-  field-reads.Learnt,
-  rule-of-reads.Asked,
-  rule-of-reads.Learnt,
-  some-length-fits-reads.Asked,
-  some-length-fits-reads.Learnt,
-  length-passes-reads.Asked,
-  length-passes-reads.Learnt,
-  walk-inside-below t,
-  walk-inside.Post,
-) (walk-inside-at t) walk-inside.Post
-walk-inside-part-walk-inside-end t c = search needs
-
-walk-inside-add-walk-inside : (t : ℕ) → walk-inside-lts.Need-add-walk-inside (
-  field-reads.Asked,
-  field-reads.Learnt,
-  rule-of-reads.Asked,
-  rule-of-reads.Learnt,
-  some-length-fits-reads.Asked,
-  some-length-fits-reads.Learnt,
-  length-passes-reads.Asked,
-  length-passes-reads.Learnt,
-  walk-inside-below t,
-  walk-inside.Post,
-) (walk-inside-at t) walk-inside.Post
-walk-inside-add-walk-inside t c = search needs
-
-walk-inside-cast-walk-inside : (t : ℕ) → walk-inside-lts.Need-cast-walk-inside (
-  field-reads.Asked,
-  field-reads.Learnt,
-  rule-of-reads.Asked,
-  rule-of-reads.Learnt,
-  some-length-fits-reads.Asked,
-  some-length-fits-reads.Learnt,
-  length-passes-reads.Asked,
-  length-passes-reads.Learnt,
-  walk-inside-below t,
-  walk-inside.Post,
-) (walk-inside-at t) walk-inside.Post
-walk-inside-cast-walk-inside t c = search needs
-
-walk-inside-add-walk-inside-2 : (t : ℕ) → walk-inside-lts.Need-add-walk-inside-2 (
-  field-reads.Asked,
-  field-reads.Learnt,
-  rule-of-reads.Asked,
-  rule-of-reads.Learnt,
-  some-length-fits-reads.Asked,
-  some-length-fits-reads.Learnt,
-  length-passes-reads.Asked,
-  length-passes-reads.Learnt,
-  walk-inside-below t,
-  walk-inside.Post,
-) (walk-inside-at t) walk-inside.Post
-walk-inside-add-walk-inside-2 t c = let f = passed-fits mmWave mmWave-sound (c .before .before .before .before .before .before .before .before .before .before .args .objects) _ _ _ _ (λ e. omega (arith, e, c .before .before .before .before .before .before .before .before .before .before .pre .1 .0)) (sym (c .before .before .before .length-passes .ensures) ∙ c .before .before .if2 .taken) in let h = c .before .before .before .before .before .before .before .before .before .before .pre .1 in omega (arith, f, h .0, h .1)
-
-walk-inside-sub-walk-inside-2 : (t : ℕ) → walk-inside-lts.Need-sub-walk-inside-2 (
-  field-reads.Asked,
-  field-reads.Learnt,
-  rule-of-reads.Asked,
-  rule-of-reads.Learnt,
-  some-length-fits-reads.Asked,
-  some-length-fits-reads.Learnt,
-  length-passes-reads.Asked,
-  length-passes-reads.Learnt,
-  walk-inside-below t,
-  walk-inside.Post,
-) (walk-inside-at t) walk-inside.Post
-walk-inside-sub-walk-inside-2 t c = search needs
-
-walk-inside-cast-walk-inside-2 : (t : ℕ) → walk-inside-lts.Need-cast-walk-inside-2 (
-  field-reads.Asked,
-  field-reads.Learnt,
-  rule-of-reads.Asked,
-  rule-of-reads.Learnt,
-  some-length-fits-reads.Asked,
-  some-length-fits-reads.Learnt,
-  length-passes-reads.Asked,
-  length-passes-reads.Learnt,
-  walk-inside-below t,
-  walk-inside.Post,
-) (walk-inside-at t) walk-inside.Post
-walk-inside-cast-walk-inside-2 t c = search needs
-
-walk-inside-sub-walk-inside-3 : (t : ℕ) → walk-inside-lts.Need-sub-walk-inside-3 (
-  field-reads.Asked,
-  field-reads.Learnt,
-  rule-of-reads.Asked,
-  rule-of-reads.Learnt,
-  some-length-fits-reads.Asked,
-  some-length-fits-reads.Learnt,
-  length-passes-reads.Asked,
-  length-passes-reads.Learnt,
-  walk-inside-below t,
-  walk-inside.Post,
-) (walk-inside-at t) walk-inside.Post
-walk-inside-sub-walk-inside-3 t c = passed-fits mmWave mmWave-sound (c .before .before .before .before .before .before .before .before .before .before .args .objects) _ _ _ _ (λ e. omega (arith, e, c .before .before .before .before .before .before .before .before .before .before .pre .1 .0)) (sym (c .before .before .before .length-passes .ensures) ∙ c .before .before .if2 .taken)
-
-walk-inside-walk-inside-requires : (t : ℕ) → walk-inside-lts.Need-walk-inside-requires (
-  field-reads.Asked,
-  field-reads.Learnt,
-  rule-of-reads.Asked,
-  rule-of-reads.Learnt,
-  some-length-fits-reads.Asked,
-  some-length-fits-reads.Learnt,
-  length-passes-reads.Asked,
-  length-passes-reads.Learnt,
-  walk-inside-below t,
-  walk-inside.Post,
-) (walk-inside-at t) walk-inside.Post
-walk-inside-walk-inside-requires t c κs = let f = passed-fits mmWave mmWave-sound (c .before .before .before .before .before .before .before .before .before .before .args .objects) _ _ _ _ (λ e. omega (arith, e, c .before .before .before .before .before .before .before .before .before .before .pre .1 .0)) (sym (c .before .before .before .length-passes .ensures) ∙ c .before .before .if2 .taken) in let h = c .before .before .before .before .before .before .before .before .before .before .pre in (omega (arith, h .0, c .before .if3 .left), (omega (arith, h .1 .0, c .before .if3 .left), omega (arith, f, h .1 .0, h .1 .1)))
-
-walk-inside-returns-2 : (t : ℕ) → walk-inside-lts.Need-returns-2 (
-  field-reads.Asked,
-  field-reads.Learnt,
-  rule-of-reads.Asked,
-  rule-of-reads.Learnt,
-  some-length-fits-reads.Asked,
-  some-length-fits-reads.Learnt,
-  length-passes-reads.Asked,
-  length-passes-reads.Learnt,
-  walk-inside-below t,
-  walk-inside.Post,
-) (walk-inside-at t) walk-inside.Post
-walk-inside-returns-2 t c = let a = c .before .before .before .before .before .before .before .before .before .before .before .args in let h = c .before .before .before .before .before .before .before .before .before .before .before .pre .1 in let f = passed-fits mmWave mmWave-sound (c .before .before .before .before .before .before .before .before .before .before .before .args .objects) _ _ _ _ (λ e. omega (arith, e, c .before .before .before .before .before .before .before .before .before .before .before .pre .1 .0)) (sym (c .before .before .before .before .length-passes .ensures) ∙ c .before .before .before .if2 .taken) in
-    settled-more mmWave (a .objects) (a .k) (a .room) (a .at) (a .s .now) (λ e. omega (arith, e, c .before .before .before .before .before .before .before .before .before .before .before .pre .1 .0)) (c .before .before .before .before .before .before .before .before .before .field .ensures) (c .before .before .before .before .before .before .before .before .rule-of .ensures) (c .before .before .before .before .before .before .before .some-length-fits .ensures) (c .before .before .before .before .before .field2 .ensures) (c .before .before .before .before .length-passes .ensures) (c .before .before .before .before .before .before .if1 .taken) _ f (h .1) (c .before .before .before .if2 .taken) (all-of mmWave (a .objects) (a .k - 1) (a .room - c .before .before .before .before .before .field2 .result) (a .at + 8 + c .before .before .before .before .before .field2 .result) (a .s .now) (c .walk-inside .ensures))
-
-walk-inside-returns-3 : (t : ℕ) → walk-inside-lts.Need-returns-3 (
-  field-reads.Asked,
-  field-reads.Learnt,
-  rule-of-reads.Asked,
-  rule-of-reads.Learnt,
-  some-length-fits-reads.Asked,
-  some-length-fits-reads.Learnt,
-  length-passes-reads.Asked,
-  length-passes-reads.Learnt,
-  walk-inside-below t,
-  walk-inside.Post,
-) (walk-inside-at t) walk-inside.Post
-walk-inside-returns-3 t c = let a = c .before .before .before .before .before .before .before .before .args in let h = c .before .before .before .before .before .before .before .before .pre .1 in
-    settled-length mmWave (a .objects) (a .k) (a .room) (a .at) (a .s .now) (λ e. omega (arith, e, c .before .before .before .before .before .before .before .before .pre .1 .0)) (c .before .before .before .before .before .before .field .ensures) (c .before .before .before .before .before .rule-of .ensures) (c .before .before .before .before .some-length-fits .ensures) (c .before .before .field2 .ensures) (c .before .length-passes .ensures) (c .before .before .before .if1 .taken) _ (omega (arith, h .0, h .1)) (c .if2 .left)
-
-walk-inside-returns-4 : (t : ℕ) → walk-inside-lts.Need-returns-4 (
-  field-reads.Asked,
-  field-reads.Learnt,
-  rule-of-reads.Asked,
-  rule-of-reads.Learnt,
-  some-length-fits-reads.Asked,
-  some-length-fits-reads.Learnt,
-  length-passes-reads.Asked,
-  length-passes-reads.Learnt,
-  walk-inside-below t,
-  walk-inside.Post,
-) (walk-inside-at t) walk-inside.Post
-walk-inside-returns-4 t c = let a = c .before .before .before .before .before .args in let h = c .before .before .before .before .before .pre .1 in
-    settled-type mmWave (a .objects) (a .k) (a .room) (a .at) (a .s .now) (λ e. omega (arith, e, c .before .before .before .before .before .pre .1 .0)) (c .before .before .before .field .ensures) (c .before .before .rule-of .ensures) (c .before .some-length-fits .ensures) _ (omega (arith, h .0, h .1)) (c .if1 .left)
-
-pub +walk-inside-spec : {M : Type 1} → statement M
-+walk-inside-spec = close μ-walk-inside λ t. walk-inside-lts.spec (
+-- what the calls ask and teach; the call of itself has one record fewer
+abbrev calls : ℕ → walk-inside-lts.Claims
+calls t = (
   field-reads.Asked,
   field-reads.Learnt,
   rule-of-reads.Asked,
@@ -327,6 +44,118 @@ pub +walk-inside-spec : {M : Type 1} → statement M
   walk-inside-below t,
   walk-inside.Post,
 )
+
+walk-inside-field-requires : (t : ℕ) → walk-inside-lts.Need-field-requires (calls t) (walk-inside-at t) walk-inside.Post
+walk-inside-field-requires t c κs = search needs
+
+walk-inside-rule-of-requires : (t : ℕ) → walk-inside-lts.Need-rule-of-requires (calls t) (walk-inside-at t) walk-inside.Post
+walk-inside-rule-of-requires t c κs = search needs
+
+walk-inside-some-length-fits-requires : (t : ℕ)
+    → walk-inside-lts.Need-some-length-fits-requires (calls t) (walk-inside-at t) walk-inside.Post
+walk-inside-some-length-fits-requires t c κs = search needs
+
+walk-inside-add-field : (t : ℕ) → walk-inside-lts.Need-add-field (calls t) (walk-inside-at t) walk-inside.Post
+walk-inside-add-field t c = search needs
+
+walk-inside-field-requires-2 : (t : ℕ) → walk-inside-lts.Need-field-requires-2 (calls t) (walk-inside-at t) walk-inside.Post
+walk-inside-field-requires-2 t c κs = search needs
+
+walk-inside-length-passes-requires : (t : ℕ) → walk-inside-lts.Need-length-passes-requires (calls t) (walk-inside-at t) walk-inside.Post
+walk-inside-length-passes-requires t c κs = sym (c .before .before .some-length-fits .ensures) ∙ c .before .if1 .taken
+
+walk-inside-returns : (t : ℕ) → walk-inside-lts.Need-returns (calls t) (walk-inside-at t) walk-inside.Post
+walk-inside-returns t c =
+    let i2 = c .before in let l = i2 .before in let f2 = l .before in let i1 = f2 .before in let s = i1 .before in
+    let r = s .before in let fi = r .before in let start = fi .before .before in
+    let a = start .args in
+    let h = start .pre .1 in
+    let f = passed-fits mmWave mmWave-sound (start .args .objects) _ _ _ _ (λ e. omega (arith, e, start .pre .1 .0))
+    (sym (l .length-passes .ensures) ∙ i2 .if2 .taken) in
+    settled-more mmWave (a .objects) (a .k) (a .room) (a .at) (a .s .now) (λ e. omega (arith, e, start .pre .1 .0)) (fi .field .ensures)
+    (r .rule-of .ensures) (s .some-length-fits .ensures) (f2 .field2 .ensures) (l .length-passes .ensures) (i1 .if1 .taken) 0 f (h .1)
+    (i2 .if2 .taken) (settled-none mmWave (a .objects) (a .k - 1) (a .room - f2 .field2 .result) (a .at + 8 + f2 .field2 .result)
+    (a .s .now) (omega (arith, c .if3 .taken)) (omega (arith, f, h .0, h .1)))
+
+walk-inside-sub-walk-inside : (t : ℕ) → walk-inside-lts.Need-sub-walk-inside (calls t) (walk-inside-at t) walk-inside.Post
+walk-inside-sub-walk-inside t c = search needs
+
+walk-inside-part-walk-inside-start : (t : ℕ) → walk-inside-lts.Need-part-walk-inside-start (calls t) (walk-inside-at t) walk-inside.Post
+walk-inside-part-walk-inside-start t c = search needs
+
+walk-inside-part-walk-inside-end : (t : ℕ) → walk-inside-lts.Need-part-walk-inside-end (calls t) (walk-inside-at t) walk-inside.Post
+walk-inside-part-walk-inside-end t c = search needs
+
+walk-inside-add-walk-inside : (t : ℕ) → walk-inside-lts.Need-add-walk-inside (calls t) (walk-inside-at t) walk-inside.Post
+walk-inside-add-walk-inside t c = search needs
+
+walk-inside-cast-walk-inside : (t : ℕ) → walk-inside-lts.Need-cast-walk-inside (calls t) (walk-inside-at t) walk-inside.Post
+walk-inside-cast-walk-inside t c = search needs
+
+walk-inside-add-walk-inside-2 : (t : ℕ) → walk-inside-lts.Need-add-walk-inside-2 (calls t) (walk-inside-at t) walk-inside.Post
+walk-inside-add-walk-inside-2 t c =
+    let i2 = c .before .before in let l = i2 .before in
+    let start = l .before .before .before .before .before .before .before in
+    let f = passed-fits mmWave mmWave-sound (start .args .objects) _ _ _ _ (λ e. omega (arith, e, start .pre .1 .0))
+    (sym (l .length-passes .ensures) ∙ i2 .if2 .taken) in
+    let h = start .pre .1 in
+    omega (arith, f, h .0, h .1)
+
+walk-inside-sub-walk-inside-2 : (t : ℕ) → walk-inside-lts.Need-sub-walk-inside-2 (calls t) (walk-inside-at t) walk-inside.Post
+walk-inside-sub-walk-inside-2 t c = search needs
+
+walk-inside-cast-walk-inside-2 : (t : ℕ) → walk-inside-lts.Need-cast-walk-inside-2 (calls t) (walk-inside-at t) walk-inside.Post
+walk-inside-cast-walk-inside-2 t c = search needs
+
+walk-inside-sub-walk-inside-3 : (t : ℕ) → walk-inside-lts.Need-sub-walk-inside-3 (calls t) (walk-inside-at t) walk-inside.Post
+walk-inside-sub-walk-inside-3 t c =
+    let i2 = c .before .before in let l = i2 .before in
+    let start = l .before .before .before .before .before .before .before in
+    passed-fits mmWave mmWave-sound (start .args .objects) _ _ _ _ (λ e. omega (arith, e, start .pre .1 .0))
+    (sym (l .length-passes .ensures) ∙ i2 .if2 .taken)
+
+walk-inside-walk-inside-requires : (t : ℕ) → walk-inside-lts.Need-walk-inside-requires (calls t) (walk-inside-at t) walk-inside.Post
+walk-inside-walk-inside-requires t c κs =
+    let i3 = c .before in let i2 = i3 .before in let l = i2 .before in
+    let start = l .before .before .before .before .before .before .before in
+    let f = passed-fits mmWave mmWave-sound (start .args .objects) _ _ _ _ (λ e. omega (arith, e, start .pre .1 .0))
+    (sym (l .length-passes .ensures) ∙ i2 .if2 .taken) in
+    let h = start .pre in
+    (omega (arith, h .0, i3 .if3 .left), (omega (arith, h .1 .0, i3 .if3 .left), omega (arith, f, h .1 .0, h .1 .1)))
+
+walk-inside-returns-2 : (t : ℕ) → walk-inside-lts.Need-returns-2 (calls t) (walk-inside-at t) walk-inside.Post
+walk-inside-returns-2 t c =
+    let i2 = c .before .before .before in let l = i2 .before in let f2 = l .before in let i1 = f2 .before in
+    let s = i1 .before in let r = s .before in let fi = r .before in let start = fi .before .before in
+    let a = start .args in
+    let h = start .pre .1 in
+    let f = passed-fits mmWave mmWave-sound (start .args .objects) _ _ _ _ (λ e. omega (arith, e, start .pre .1 .0))
+    (sym (l .length-passes .ensures) ∙ i2 .if2 .taken) in
+    settled-more mmWave (a .objects) (a .k) (a .room) (a .at) (a .s .now) (λ e. omega (arith, e, start .pre .1 .0)) (fi .field .ensures)
+    (r .rule-of .ensures) (s .some-length-fits .ensures) (f2 .field2 .ensures) (l .length-passes .ensures) (i1 .if1 .taken) _ f (h .1)
+    (i2 .if2 .taken) (all-of mmWave (a .objects) (a .k - 1) (a .room - f2 .field2 .result) (a .at + 8 + f2 .field2 .result) (a .s .now)
+    (c .walk-inside .ensures))
+
+walk-inside-returns-3 : (t : ℕ) → walk-inside-lts.Need-returns-3 (calls t) (walk-inside-at t) walk-inside.Post
+walk-inside-returns-3 t c =
+    let l = c .before in let f2 = l .before in let i1 = f2 .before in let s = i1 .before in let r = s .before in
+    let f = r .before in let start = f .before .before in
+    let a = start .args in
+    let h = start .pre .1 in
+    settled-length mmWave (a .objects) (a .k) (a .room) (a .at) (a .s .now) (λ e. omega (arith, e, start .pre .1 .0)) (f .field .ensures)
+    (r .rule-of .ensures) (s .some-length-fits .ensures) (f2 .field2 .ensures) (l .length-passes .ensures) (i1 .if1 .taken) _
+    (omega (arith, h .0, h .1)) (c .if2 .left)
+
+walk-inside-returns-4 : (t : ℕ) → walk-inside-lts.Need-returns-4 (calls t) (walk-inside-at t) walk-inside.Post
+walk-inside-returns-4 t c =
+    let s = c .before in let r = s .before in let f = r .before in let start = f .before .before in
+    let a = start .args in
+    let h = start .pre .1 in
+    settled-type mmWave (a .objects) (a .k) (a .room) (a .at) (a .s .now) (λ e. omega (arith, e, start .pre .1 .0)) (f .field .ensures)
+    (r .rule-of .ensures) (s .some-length-fits .ensures) _ (omega (arith, h .0, h .1)) (c .if1 .left)
+
+pub +walk-inside-spec : {M : Type 1} → statement M
++walk-inside-spec = close μ-walk-inside λ t. walk-inside-lts.spec (calls t)
     (walk-inside-at t)
     walk-inside.Post
     (walk-inside-field-requires t)

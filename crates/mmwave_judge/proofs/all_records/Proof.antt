@@ -6,8 +6,10 @@ use Rattle.mmwave_judge.proofs.all_records.Statement.{statement}
 use Rattle.mmwave_judge.proofs.all_records.Tie as tie
 
 returns : tie.Need-returns
-returns c = let a = c .before .before .args in
-    settled-none mmWave (a .objects) (a .k) (a .room) 40 (a .s .now) (c .if1 .taken) (c .before .before .pre)
+returns c =
+    let start = c .before .before in
+    let a = start .args in
+    settled-none mmWave (a .objects) (a .k) (a .room) 40 (a .s .now) (c .if1 .taken) (start .pre)
 
 walk-inside-requires : tie.Need-walk-inside-requires
 walk-inside-requires c κs = search needs

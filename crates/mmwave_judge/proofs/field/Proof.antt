@@ -31,7 +31,10 @@ join-requires : tie.Need-join-requires
 join-requires c κs = search needs
 
 returns : tie.Need-returns
-returns c = let a = c .before .before .before .before .before .before .args in c .join .ensures ∙ little-there (a .at) (a .s .now) (omega arith)
+returns c =
+    let start = c .before .before .before .before .before .before in
+    let a = start .args in
+    c .join .ensures ∙ little-there (a .at) (a .s .now) (omega arith)
 
 pub field-spec : {M : Type 1} → statement M
 field-spec =

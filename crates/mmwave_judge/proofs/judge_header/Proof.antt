@@ -29,16 +29,32 @@ behind-header-requires : tie.Need-behind-header-requires
 behind-header-requires c κs = mmWave-sound .count-room _ _ (sym (c .before .before .count-ok .ensures) ∙ c .before .if3 .taken)
 
 returns : tie.Need-returns
-returns c = c .behind-header .ensures ∙ header-passed mmWave (c .before .before .before .before .before .before .before .before .before .before .before .args .s .now) (c .before .before .before .before .before .before .before .before .before .before .before .pre) (c .before .before .before .before .before .before .before .before .before .has-magic .ensures .0 (c .before .before .before .before .before .before .before .before .if1 .taken)) (c .before .before .before .before .before .before .before .field .ensures) (c .before .before .before .before .before .before .total-ok .ensures) (c .before .before .before .before .before .if2 .taken) (c .before .before .before .before .field2 .ensures) (c .before .before .before .count-ok .ensures) (c .before .field3 .ensures) (c .before .before .if3 .taken)
+returns c =
+    let f3 = c .before in let i3 = f3 .before in let o = i3 .before in let f2 = o .before in
+    let i2 = f2 .before in let to = i2 .before in let f = to .before in let i1 = f .before in
+    let h = i1 .before in let start = h .before .before in
+    c .behind-header .ensures
+    ∙ header-passed mmWave (start .args .s .now) (start .pre) (h .has-magic .ensures .0 (i1 .if1 .taken)) (f .field .ensures)
+    (to .total-ok .ensures) (i2 .if2 .taken) (f2 .field2 .ensures) (o .count-ok .ensures) (f3 .field3 .ensures) (i3 .if3 .taken)
 
 returns-2 : tie.Need-returns-2
-returns-2 c = header-count mmWave (c .before .before .before .before .before .before .before .before .before .args .s .now) (c .before .before .before .before .before .before .before .before .before .pre) (c .before .before .before .before .before .before .before .has-magic .ensures .0 (c .before .before .before .before .before .before .if1 .taken)) (c .before .before .before .before .before .field .ensures) (c .before .before .before .before .total-ok .ensures) (c .before .before .before .if2 .taken) (c .before .before .field2 .ensures) (c .before .count-ok .ensures) (c .if3 .left)
+returns-2 c =
+    let o = c .before in let f2 = o .before in let i2 = f2 .before in let to = i2 .before in let f = to .before in
+    let i1 = f .before in let h = i1 .before in let start = h .before .before in
+    header-count mmWave (start .args .s .now) (start .pre) (h .has-magic .ensures .0 (i1 .if1 .taken)) (f .field .ensures)
+    (to .total-ok .ensures) (i2 .if2 .taken) (f2 .field2 .ensures) (o .count-ok .ensures) (c .if3 .left)
 
 returns-3 : tie.Need-returns-3
-returns-3 c = header-total mmWave (c .before .before .before .before .before .before .args .s .now) (c .before .before .before .before .before .before .pre) (c .before .before .before .before .has-magic .ensures .0 (c .before .before .before .if1 .taken)) (c .before .before .field .ensures) (c .before .total-ok .ensures) (c .if2 .left)
+returns-3 c =
+    let o = c .before in let f = o .before in let i1 = f .before in let h = i1 .before in
+    let start = h .before .before in
+    header-total mmWave (start .args .s .now) (start .pre) (h .has-magic .ensures .0 (i1 .if1 .taken)) (f .field .ensures)
+    (o .total-ok .ensures) (c .if2 .left)
 
 returns-4 : tie.Need-returns-4
-returns-4 c = no-magic mmWave (c .before .before .before .args .s .now) (c .before .before .before .pre) (c .before .has-magic .ensures .1 (c .if1 .left))
+returns-4 c =
+    let h = c .before in let start = h .before .before in
+    no-magic mmWave (start .args .s .now) (start .pre) (h .has-magic .ensures .1 (c .if1 .left))
 
 pub judge-header-spec : {M : Type 1} → statement M
 judge-header-spec =

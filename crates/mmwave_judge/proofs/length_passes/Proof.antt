@@ -14,7 +14,9 @@ length-ok-requires c κs = search needs
 
 returns : tie.Need-returns
 unfolding mmWave somePayloadFits
-returns c = rw (c .before .rule .given .1) (exact-length mmWave _ _ _ _ (rw (c .before .rule .given .1) at (c .before .before .before .pre)))
+returns c =
+    let r = c .before in let start = r .before .before in
+    rw (r .rule .given .1) (exact-length mmWave _ _ _ _ (rw (r .rule .given .1) at (start .pre)))
 
 returns-2 : tie.Need-returns-2
 returns-2 c = search needs

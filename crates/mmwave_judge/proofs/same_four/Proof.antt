@@ -12,10 +12,13 @@ join-requires-2 : tie.Need-join-requires-2
 join-requires-2 c κs = search needs
 
 returns : tie.Need-returns
-returns c = let a = c .before .before .args in (
-  same-bytes _ _ _ _ _ _ _ _ (c .before .join .ensures) (c .join2 .ensures) (omega arith) (omega arith) (omega arith) (omega arith) (omega arith) (omega arith) (omega arith) (omega arith),
-  other-bytes _ _ _ _ _ _ _ _ (c .before .join .ensures) (c .join2 .ensures),
-)
+returns c =
+    let j = c .before in let start = j .before in
+    let a = start .args in (
+      same-bytes _ _ _ _ _ _ _ _ (j .join .ensures) (c .join2 .ensures) (omega arith) (omega arith) (omega arith) (omega arith)
+          (omega arith) (omega arith) (omega arith) (omega arith),
+      other-bytes _ _ _ _ _ _ _ _ (j .join .ensures) (c .join2 .ensures),
+    )
 
 pub same-four-spec : {M : Type 1} → statement M
 same-four-spec = tie.close (tie.spec join-requires join-requires-2 returns)

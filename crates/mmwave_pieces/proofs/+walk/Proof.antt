@@ -27,110 +27,9 @@ walk-at t = and 1 walk-kinds.ps (is 1 walk-kinds.ps μ-walk t) walk.Pre
 abbrev walk-below : ℕ → In 1 walk-kinds.ps
 walk-below t = and 1 walk-kinds.ps (falls 1 walk-kinds.ps _<_ μ-walk t) walk.Pre
 
-walk-padding-at-requires : (t : ℕ) → walk-lts.Need-padding-at-requires (
-  padding-at-reads.Asked,
-  padding-at-reads.Learnt,
-  record-at-reads.Asked,
-  record-at-reads.Learnt,
-  walk-below t,
-  walk.Post,
-) (walk-at t) walk.Post
-walk-padding-at-requires t c κs = search needs
-
-walk-returns : (t : ℕ) → walk-lts.Need-returns (
-  padding-at-reads.Asked,
-  padding-at-reads.Learnt,
-  record-at-reads.Asked,
-  record-at-reads.Learnt,
-  walk-below t,
-  walk.Post,
-) (walk-at t) walk.Post
-walk-returns t c = c .padding-at .ensures ∙ records-none mmWave _ _ _ _ _ (c .before .if1 .taken)
-
-walk-record-at-requires : (t : ℕ) → walk-lts.Need-record-at-requires (
-  padding-at-reads.Asked,
-  padding-at-reads.Learnt,
-  record-at-reads.Asked,
-  record-at-reads.Learnt,
-  walk-below t,
-  walk.Post,
-) (walk-at t) walk.Post
-walk-record-at-requires t c κs = search needs
-
-walk-enum-known-a : (t : ℕ) → walk-lts.Need-enum-known-a (
-  padding-at-reads.Asked,
-  padding-at-reads.Learnt,
-  record-at-reads.Asked,
-  record-at-reads.Learnt,
-  walk-below t,
-  walk.Post,
-) (walk-at t) walk.Post
-walk-enum-known-a t c = search needs
-
-walk-returns-2 : (t : ℕ) → walk-lts.Need-returns-2 (
-  padding-at-reads.Asked,
-  padding-at-reads.Learnt,
-  record-at-reads.Asked,
-  record-at-reads.Learnt,
-  walk-below t,
-  walk.Post,
-) (walk-at t) walk.Post
-walk-returns-2 t c = let a = c .before .before .before .before .args in
-    halt _ _ _ _ (c .before .record-at .ensures) (c .match .keys2) ∙ sym (ap (λ (p : Form). judgeAt p (a .at) (a .s .now)) (records-more mmWave _ _ _ (c .before .before .if1 .left)))
-
-walk-sub-walk : (t : ℕ) → walk-lts.Need-sub-walk (
-  padding-at-reads.Asked,
-  padding-at-reads.Learnt,
-  record-at-reads.Asked,
-  record-at-reads.Learnt,
-  walk-below t,
-  walk.Post,
-) (walk-at t) walk.Post
-walk-sub-walk t c = search needs
-
-walk-cast-walk : (t : ℕ) → walk-lts.Need-cast-walk (
-  padding-at-reads.Asked,
-  padding-at-reads.Learnt,
-  record-at-reads.Asked,
-  record-at-reads.Learnt,
-  walk-below t,
-  walk.Post,
-) (walk-at t) walk.Post
-walk-cast-walk t c = search needs
-
-walk-sub-walk-2 : (t : ℕ) → walk-lts.Need-sub-walk-2 (
-  padding-at-reads.Asked,
-  padding-at-reads.Learnt,
-  record-at-reads.Asked,
-  record-at-reads.Learnt,
-  walk-below t,
-  walk.Post,
-) (walk-at t) walk.Post
-walk-sub-walk-2 t c = entry-fits mmWave mmWave-sound _ _ _ _ _ _ _ (c .before .before .before .before .if1 .left) (c .before .before .before .record-at .ensures) (c .before .a .given .1)
-
-walk-walk-requires : (t : ℕ) → walk-lts.Need-walk-requires (
-  padding-at-reads.Asked,
-  padding-at-reads.Learnt,
-  record-at-reads.Asked,
-  record-at-reads.Learnt,
-  walk-below t,
-  walk.Post,
-) (walk-at t) walk.Post
-walk-walk-requires t c κs = (omega (arith, c .before .before .before .before .before .before .pre .0, c .before .before .before .before .if1 .left), tt)
-
-walk-returns-3 : (t : ℕ) → walk-lts.Need-returns-3 (
-  padding-at-reads.Asked,
-  padding-at-reads.Learnt,
-  record-at-reads.Asked,
-  record-at-reads.Learnt,
-  walk-below t,
-  walk.Post,
-) (walk-at t) walk.Post
-walk-returns-3 t c = let a = c .before .before .before .before .before .before .before .args in
-    c .walk .ensures ∙ sym (ap (λ (p : Form). judgeAt p (a .at) (a .s .now)) (records-more mmWave _ _ _ (c .before .before .before .before .before .if1 .left)) ∙ go-on _ _ _ _ (c .before .before .before .before .record-at .ensures) (c .before .before .a .given .1))
-
-pub +walk-spec : {M : Type 1} → statement M
-+walk-spec = close μ-walk λ t. walk-lts.spec (
+-- what the calls ask and teach; the call of itself has one record fewer
+abbrev calls : ℕ → walk-lts.Claims
+calls t = (
   padding-at-reads.Asked,
   padding-at-reads.Learnt,
   record-at-reads.Asked,
@@ -138,6 +37,53 @@ pub +walk-spec : {M : Type 1} → statement M
   walk-below t,
   walk.Post,
 )
+
+walk-padding-at-requires : (t : ℕ) → walk-lts.Need-padding-at-requires (calls t) (walk-at t) walk.Post
+walk-padding-at-requires t c κs = search needs
+
+walk-returns : (t : ℕ) → walk-lts.Need-returns (calls t) (walk-at t) walk.Post
+walk-returns t c = c .padding-at .ensures ∙ records-none mmWave _ _ _ _ _ (c .before .if1 .taken)
+
+walk-record-at-requires : (t : ℕ) → walk-lts.Need-record-at-requires (calls t) (walk-at t) walk.Post
+walk-record-at-requires t c κs = search needs
+
+walk-enum-known-a : (t : ℕ) → walk-lts.Need-enum-known-a (calls t) (walk-at t) walk.Post
+walk-enum-known-a t c = search needs
+
+walk-returns-2 : (t : ℕ) → walk-lts.Need-returns-2 (calls t) (walk-at t) walk.Post
+walk-returns-2 t c =
+    let r = c .before in let i1 = r .before in let start = i1 .before .before in
+    let a = start .args in
+    halt _ _ _ _ (r .record-at .ensures) (c .match .keys2)
+    ∙ sym (ap (λ (p : Form). judgeAt p (a .at) (a .s .now)) (records-more mmWave _ _ _ (i1 .if1 .left)))
+
+walk-sub-walk : (t : ℕ) → walk-lts.Need-sub-walk (calls t) (walk-at t) walk.Post
+walk-sub-walk t c = search needs
+
+walk-cast-walk : (t : ℕ) → walk-lts.Need-cast-walk (calls t) (walk-at t) walk.Post
+walk-cast-walk t c = search needs
+
+walk-sub-walk-2 : (t : ℕ) → walk-lts.Need-sub-walk-2 (calls t) (walk-at t) walk.Post
+walk-sub-walk-2 t c =
+    let a = c .before in let r = a .before .before in let i1 = r .before in
+    entry-fits mmWave mmWave-sound _ _ _ _ _ _ _ (i1 .if1 .left) (r .record-at .ensures) (a .a .given .1)
+
+walk-walk-requires : (t : ℕ) → walk-lts.Need-walk-requires (calls t) (walk-at t) walk.Post
+walk-walk-requires t c κs =
+    let i1 = c .before .before .before .before in let start = i1 .before .before in
+    (omega (arith, start .pre .0, i1 .if1 .left), tt)
+
+walk-returns-3 : (t : ℕ) → walk-lts.Need-returns-3 (calls t) (walk-at t) walk.Post
+walk-returns-3 t c =
+    let a = c .before .before in let r = a .before .before in let i1 = r .before in
+    let start = i1 .before .before in
+    let args = start .args in
+    c .walk .ensures
+    ∙ sym (ap (λ (p : Form). judgeAt p (args .at) (args .s .now)) (records-more mmWave _ _ _ (i1 .if1 .left))
+    ∙ go-on _ _ _ _ (r .record-at .ensures) (a .a .given .1))
+
+pub +walk-spec : {M : Type 1} → statement M
++walk-spec = close μ-walk λ t. walk-lts.spec (calls t)
     (walk-at t)
     walk.Post
     (walk-padding-at-requires t)

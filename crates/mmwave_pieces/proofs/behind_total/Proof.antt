@@ -28,8 +28,9 @@ enum-known-b c = search needs
 
 returns-2 : tie.Need-returns-2
 unfolding counted
-returns-2 c = halt _ _ _ _ (c .before .number .ensures .answers) (c .match2 .keys2)
-    ∙ sym (go-on _ _ _ _ (c .before .before .before .before .before .skip-numbers .ensures .answers) (c .before .before .before .a .given .1))
+returns-2 c =
+    let n = c .before in let a = n .before .before in let s = a .before .before in
+    halt _ _ _ _ (n .number .ensures .answers) (c .match2 .keys2) ∙ sym (go-on _ _ _ _ (s .skip-numbers .ensures .answers) (a .a .given .1))
 
 count-at-requires : tie.Need-count-at-requires
 count-at-requires c κs = search needs
@@ -39,9 +40,12 @@ enum-known-d c = search needs
 
 returns-3 : tie.Need-returns-3
 unfolding counted
-returns-3 c = halt _ _ _ _ (c .before .count-at .ensures) (c .match3 .keys2)
-    ∙ sym (go-on _ _ _ _ (c .before .before .before .before .before .number .ensures .answers) (c .before .before .before .b .given .1))
-    ∙ sym (go-on _ _ _ _ (c .before .before .before .before .before .before .before .before .before .skip-numbers .ensures .answers) (c .before .before .before .before .before .before .before .a .given .1))
+returns-3 c =
+    let k = c .before in let b = k .before .before in let n = b .before .before in
+    let a = n .before .before in let s = a .before .before in
+    halt _ _ _ _ (k .count-at .ensures) (c .match3 .keys2)
+    ∙ sym (go-on _ _ _ _ (n .number .ensures .answers) (b .b .given .1))
+    ∙ sym (go-on _ _ _ _ (s .skip-numbers .ensures .answers) (a .a .given .1))
 
 skip-numbers-requires-2 : tie.Need-skip-numbers-requires-2
 skip-numbers-requires-2 c κs = search needs
@@ -51,10 +55,13 @@ enum-known-f c = search needs
 
 returns-4 : tie.Need-returns-4
 unfolding counted
-returns-4 c = halt _ _ _ _ (c .before .skip-numbers2 .ensures .answers) (c .match4 .keys2)
-    ∙ sym (go-on _ _ _ _ (c .before .before .before .before .before .count-at .ensures) (c .before .before .before .d .given .1))
-    ∙ sym (go-on _ _ _ _ (c .before .before .before .before .before .before .before .before .before .number .ensures .answers) (c .before .before .before .before .before .before .before .b .given .1))
-    ∙ sym (go-on _ _ _ _ (c .before .before .before .before .before .before .before .before .before .before .before .before .before .skip-numbers .ensures .answers) (c .before .before .before .before .before .before .before .before .before .before .before .a .given .1))
+returns-4 c =
+    let s2 = c .before in let d = s2 .before .before in let k = d .before .before in let b = k .before .before in
+    let n = b .before .before in let a = n .before .before in let s = a .before .before in
+    halt _ _ _ _ (s2 .skip-numbers2 .ensures .answers) (c .match4 .keys2)
+    ∙ sym (go-on _ _ _ _ (k .count-at .ensures) (d .d .given .1))
+    ∙ sym (go-on _ _ _ _ (n .number .ensures .answers) (b .b .given .1))
+    ∙ sym (go-on _ _ _ _ (s .skip-numbers .ensures .answers) (a .a .given .1))
 
 cast-used : tie.Need-cast-used
 cast-used c = search needs
@@ -66,18 +73,24 @@ add-used : tie.Need-add-used
 add-used c = search needs
 
 sub-room : tie.Need-sub-room
-sub-room c = count-leaves mmWave mmWave-sound _ _ _ (c .before .before .before .before .before .before .before .count-at .ensures) (c .before .before .before .before .before .d .given .1)
+sub-room c =
+    let d = c .before .before .before .before .before in let a = d .before .before in
+    count-leaves mmWave mmWave-sound _ _ _ (a .count-at .ensures) (d .d .given .1)
 
 walk-requires : tie.Need-walk-requires
 walk-requires c κs = search needs
 
 returns-5 : tie.Need-returns-5
 unfolding counted
-returns-5 c = c .walk .ensures
-    ∙ sym (go-on _ _ _ _ (c .before .before .before .before .skip-numbers2 .ensures .answers) (c .before .before .f .given .1))
-    ∙ sym (go-on _ _ _ _ (c .before .before .before .before .before .before .before .before .count-at .ensures) (c .before .before .before .before .before .before .d .given .1))
-    ∙ sym (go-on _ _ _ _ (c .before .before .before .before .before .before .before .before .before .before .before .before .number .ensures .answers) (c .before .before .before .before .before .before .before .before .before .before .b .given .1))
-    ∙ sym (go-on _ _ _ _ (c .before .before .before .before .before .before .before .before .before .before .before .before .before .before .before .before .skip-numbers .ensures .answers) (c .before .before .before .before .before .before .before .before .before .before .before .before .before .before .a .given .1))
+returns-5 c =
+    let f = c .before .before in let s2 = f .before .before in let d = s2 .before .before in
+    let k = d .before .before in let b = k .before .before in let n = b .before .before in
+    let a = n .before .before in let s = a .before .before in
+    c .walk .ensures
+    ∙ sym (go-on _ _ _ _ (s2 .skip-numbers2 .ensures .answers) (f .f .given .1))
+    ∙ sym (go-on _ _ _ _ (k .count-at .ensures) (d .d .given .1))
+    ∙ sym (go-on _ _ _ _ (n .number .ensures .answers) (b .b .given .1))
+    ∙ sym (go-on _ _ _ _ (s .skip-numbers .ensures .answers) (a .a .given .1))
 
 pub behind-total-spec : {M : Type 1} → statement M
 behind-total-spec =

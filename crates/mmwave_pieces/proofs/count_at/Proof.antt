@@ -18,10 +18,14 @@ count-ok-requires : tie.Need-count-ok-requires
 count-ok-requires c κs = search needs
 
 returns-2 : tie.Need-returns-2
-returns-2 c = taken 22 _ _ _ (c .before .before .before .before .before .number .ensures .answers) (c .before .before .before .a .given .1) (sym (c .before .count-ok .ensures) ∙ c .if1 .taken)
+returns-2 c =
+    let o = c .before in let a = o .before .before in let n = a .before .before in
+    taken 22 _ _ _ (n .number .ensures .answers) (a .a .given .1) (sym (o .count-ok .ensures) ∙ c .if1 .taken)
 
 returns-3 : tie.Need-returns-3
-returns-3 c = refused 22 _ _ _ (c .before .before .before .before .before .number .ensures .answers) (c .before .before .before .a .given .1) (sym (c .before .count-ok .ensures) ∙ c .if1 .left)
+returns-3 c =
+    let o = c .before in let a = o .before .before in let n = a .before .before in
+    refused 22 _ _ _ (n .number .ensures .answers) (a .a .given .1) (sym (o .count-ok .ensures) ∙ c .if1 .left)
 
 pub count-at-spec : {M : Type 1} → statement M
 count-at-spec =

@@ -25,8 +25,9 @@ enum-known-b c = search needs
 
 returns-2 : tie.Need-returns-2
 unfolding packet
-returns-2 c = halt _ _ _ _ (c .before .skip-numbers .ensures .answers) (c .match2 .keys2)
-    ∙ sym (go-on _ _ _ _ (c .before .before .before .before .before .magic-at .ensures) (c .before .before .before .a .given .1))
+returns-2 c =
+    let s = c .before in let a = s .before .before in let m = a .before .before in
+    halt _ _ _ _ (s .skip-numbers .ensures .answers) (c .match2 .keys2) ∙ sym (go-on _ _ _ _ (m .magic-at .ensures) (a .a .given .1))
 
 total-at-requires : tie.Need-total-at-requires
 total-at-requires c κs = search needs
@@ -36,19 +37,25 @@ enum-known-d c = search needs
 
 returns-3 : tie.Need-returns-3
 unfolding packet
-returns-3 c = halt _ _ _ _ (c .before .total-at .ensures) (c .match3 .keys2)
-    ∙ sym (go-on _ _ _ _ (c .before .before .before .before .before .skip-numbers .ensures .answers) (c .before .before .before .b .given .1))
-    ∙ sym (go-on _ _ _ _ (c .before .before .before .before .before .before .before .before .before .magic-at .ensures) (c .before .before .before .before .before .before .before .a .given .1))
+returns-3 c =
+    let t0 = c .before in let b = t0 .before .before in let s = b .before .before in
+    let a = s .before .before in let m = a .before .before in
+    halt _ _ _ _ (t0 .total-at .ensures) (c .match3 .keys2)
+    ∙ sym (go-on _ _ _ _ (s .skip-numbers .ensures .answers) (b .b .given .1))
+    ∙ sym (go-on _ _ _ _ (m .magic-at .ensures) (a .a .given .1))
 
 behind-total-requires : tie.Need-behind-total-requires
 behind-total-requires c κs = search needs
 
 returns-4 : tie.Need-returns-4
 unfolding packet
-returns-4 c = c .behind-total .ensures
-    ∙ sym (go-on _ _ _ _ (c .before .before .before .before .total-at .ensures) (c .before .before .d .given .1))
-    ∙ sym (go-on _ _ _ _ (c .before .before .before .before .before .before .before .before .skip-numbers .ensures .answers) (c .before .before .before .before .before .before .b .given .1))
-    ∙ sym (go-on _ _ _ _ (c .before .before .before .before .before .before .before .before .before .before .before .before .magic-at .ensures) (c .before .before .before .before .before .before .before .before .before .before .a .given .1))
+returns-4 c =
+    let d = c .before .before in let t0 = d .before .before in let b = t0 .before .before in
+    let s = b .before .before in let a = s .before .before in let m = a .before .before in
+    c .behind-total .ensures
+    ∙ sym (go-on _ _ _ _ (t0 .total-at .ensures) (d .d .given .1))
+    ∙ sym (go-on _ _ _ _ (s .skip-numbers .ensures .answers) (b .b .given .1))
+    ∙ sym (go-on _ _ _ _ (m .magic-at .ensures) (a .a .given .1))
 
 pub judge-pieces-spec : {M : Type 1} → statement M
 judge-pieces-spec =

@@ -18,10 +18,14 @@ length-ok-requires : tie.Need-length-ok-requires
 length-ok-requires c κs = search needs
 
 returns-2 : tie.Need-returns-2
-returns-2 c = taken 24 _ _ _ (c .before .before .before .before .before .number .ensures .answers) (c .before .before .before .a .given .1) (sym (c .before .length-ok .ensures) ∙ c .if1 .taken)
+returns-2 c =
+    let l = c .before in let a = l .before .before in let n = a .before .before in
+    taken 24 _ _ _ (n .number .ensures .answers) (a .a .given .1) (sym (l .length-ok .ensures) ∙ c .if1 .taken)
 
 returns-3 : tie.Need-returns-3
-returns-3 c = refused 24 _ _ _ (c .before .before .before .before .before .number .ensures .answers) (c .before .before .before .a .given .1) (sym (c .before .length-ok .ensures) ∙ c .if1 .left)
+returns-3 c =
+    let l = c .before in let a = l .before .before in let n = a .before .before in
+    refused 24 _ _ _ (n .number .ensures .answers) (a .a .given .1) (sym (l .length-ok .ensures) ∙ c .if1 .left)
 
 pub length-at-spec : {M : Type 1} → statement M
 length-at-spec =

@@ -22,7 +22,9 @@ loop-holds c = (omega arith, refl)
 
 returns : tie.Need-returns Inv-loop μ-loop
 unfolding magic
-returns c = marker-ends 20 magic (c .before .before .loop .i) _ _ (omega arith) (c .if1 .taken) ∙ sym (c .before .before .loop .inv .1)
+returns c =
+    let l = c .before .before in
+    marker-ends 20 magic (l .loop .i) _ _ (omega arith) (c .if1 .taken) ∙ sym (l .loop .inv .1)
 
 shared-slice-read-if2 : tie.Need-shared-slice-read-if2 Inv-loop μ-loop
 shared-slice-read-if2 c = omega arith
@@ -32,7 +34,9 @@ array-read-if2 c = omega arith
 
 returns-2 : tie.Need-returns-2 Inv-loop μ-loop
 unfolding magic
-returns-2 c = marker-miss 20 magic (c .before .before .before .before .loop .i) _ _ (omega arith) (omega arith) (c .if2 .taken) ∙ sym (c .before .before .before .before .loop .inv .1)
+returns-2 c =
+    let l = c .before .before .before .before in
+    marker-miss 20 magic (l .loop .i) _ _ (omega arith) (omega arith) (c .if2 .taken) ∙ sym (l .loop .inv .1)
 
 add-at : tie.Need-add-at Inv-loop μ-loop
 add-at c = omega arith
@@ -45,7 +49,9 @@ loop-less c = omega arith
 
 loop-again : tie.Need-loop-again Inv-loop μ-loop
 unfolding magic
-loop-again c = (omega arith, c .before .before .before .before .loop .inv .1 ∙ marker-hit 20 magic (c .before .before .before .before .loop .i) _ _ (omega arith) (omega arith) (c .if2 .left))
+loop-again c =
+    let l = c .before .before .before .before in
+    (omega arith, l .loop .inv .1 ∙ marker-hit 20 magic (l .loop .i) _ _ (omega arith) (omega arith) (c .if2 .left))
 
 returns-3 : tie.Need-returns-3 Inv-loop μ-loop
 unfolding magic

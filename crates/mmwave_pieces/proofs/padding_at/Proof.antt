@@ -19,7 +19,9 @@ returns c = halt _ _ _ _ (c .before .skip .ensures .answers) (c .match .keys2)
 
 returns-2 : tie.Need-returns-2
 unfolding last mmWave
-returns-2 c = whole-there _ _ _ ∙ sym (go-on _ _ _ _ (c .before .before .before .skip .ensures .answers) (c .before .a .given .1))
+returns-2 c =
+    let a = c .before in let s = a .before .before in
+    whole-there _ _ _ ∙ sym (go-on _ _ _ _ (s .skip .ensures .answers) (a .a .given .1))
 
 pub padding-at-spec : {M : Type 1} → statement M
 padding-at-spec = tie.close (tie.spec skip-requires enum-known-a returns returns-2)

@@ -29,8 +29,10 @@ enum-known-b c = search needs
 
 returns-2 : tie.Need-returns-2
 unfolding entry
-returns-2 c = halt _ _ _ _ (length-by mmWave _ _ _ _ _ _ (c .before .before .rule-of .ensures) (c .before .length-at .ensures)) (c .match2 .keys2)
-    ∙ sym (go-on _ _ _ _ (c .before .before .before .before .before .before .type-at .ensures) (c .before .before .before .before .a .given .1))
+returns-2 c =
+    let l = c .before in let r = l .before in let a = r .before .before in let ty = a .before .before in
+    halt _ _ _ _ (length-by mmWave _ _ _ _ _ _ (r .rule-of .ensures) (l .length-at .ensures)) (c .match2 .keys2)
+    ∙ sym (go-on _ _ _ _ (ty .type-at .ensures) (a .a .given .1))
 
 cast-skip : tie.Need-cast-skip
 cast-skip c = search needs
@@ -43,15 +45,22 @@ enum-known-d c = search needs
 
 returns-3 : tie.Need-returns-3
 unfolding entry
-returns-3 c = halt _ _ _ _ (c .before .skip .ensures .answers) (c .match3 .keys2)
-    ∙ sym (go-on _ _ _ _ (length-by mmWave _ _ _ _ _ _ (c .before .before .before .before .before .before .rule-of .ensures) (c .before .before .before .before .before .length-at .ensures)) (c .before .before .before .b .given .1))
-    ∙ sym (go-on _ _ _ _ (c .before .before .before .before .before .before .before .before .before .before .type-at .ensures) (c .before .before .before .before .before .before .before .before .a .given .1))
+returns-3 c =
+    let s = c .before in let b = s .before .before in let l = b .before .before in let r = l .before in
+    let a = r .before .before in let ty = a .before .before in
+    halt _ _ _ _ (s .skip .ensures .answers) (c .match3 .keys2)
+    ∙ sym (go-on _ _ _ _ (length-by mmWave _ _ _ _ _ _ (r .rule-of .ensures) (l .length-at .ensures)) (b .b .given .1))
+    ∙ sym (go-on _ _ _ _ (ty .type-at .ensures) (a .a .given .1))
 
 returns-4 : tie.Need-returns-4
 unfolding entry
-returns-4 c = whole-there _ _ _ ∙ sym (go-on _ _ _ _ (c .before .before .before .skip .ensures .answers) (c .before .d .given .1))
-    ∙ sym (go-on _ _ _ _ (length-by mmWave _ _ _ _ _ _ (c .before .before .before .before .before .before .before .before .rule-of .ensures) (c .before .before .before .before .before .before .before .length-at .ensures)) (c .before .before .before .before .before .b .given .1))
-    ∙ sym (go-on _ _ _ _ (c .before .before .before .before .before .before .before .before .before .before .before .before .type-at .ensures) (c .before .before .before .before .before .before .before .before .before .before .a .given .1))
+returns-4 c =
+    let d = c .before in let s = d .before .before in let b = s .before .before in let l = b .before .before in
+    let r = l .before in let a = r .before .before in let ty = a .before .before in
+    whole-there _ _ _
+    ∙ sym (go-on _ _ _ _ (s .skip .ensures .answers) (d .d .given .1))
+    ∙ sym (go-on _ _ _ _ (length-by mmWave _ _ _ _ _ _ (r .rule-of .ensures) (l .length-at .ensures)) (b .b .given .1))
+    ∙ sym (go-on _ _ _ _ (ty .type-at .ensures) (a .a .given .1))
 
 pub record-at-spec : {M : Type 1} → statement M
 record-at-spec =

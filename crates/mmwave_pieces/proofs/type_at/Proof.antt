@@ -24,10 +24,16 @@ some-length-fits-requires : tie.Need-some-length-fits-requires
 some-length-fits-requires c κs = search needs
 
 returns-2 : tie.Need-returns-2
-returns-2 c = taken 23 _ _ _ (c .before .before .before .before .before .before .number .ensures .answers) (c .before .before .before .before .a .given .1) (sym (type-test mmWave _ _ _ _ (c .before .before .rule-of .ensures) (c .before .some-length-fits .ensures)) ∙ c .if1 .taken)
+returns-2 c =
+    let s = c .before in let r = s .before in let a = r .before .before in let n = a .before .before in
+    taken 23 _ _ _ (n .number .ensures .answers) (a .a .given .1)
+    (sym (type-test mmWave _ _ _ _ (r .rule-of .ensures) (s .some-length-fits .ensures)) ∙ c .if1 .taken)
 
 returns-3 : tie.Need-returns-3
-returns-3 c = refused 23 _ _ _ (c .before .before .before .before .before .before .number .ensures .answers) (c .before .before .before .before .a .given .1) (sym (type-test mmWave _ _ _ _ (c .before .before .rule-of .ensures) (c .before .some-length-fits .ensures)) ∙ c .if1 .left)
+returns-3 c =
+    let s = c .before in let r = s .before in let a = r .before .before in let n = a .before .before in
+    refused 23 _ _ _ (n .number .ensures .answers) (a .a .given .1)
+    (sym (type-test mmWave _ _ _ _ (r .rule-of .ensures) (s .some-length-fits .ensures)) ∙ c .if1 .left)
 
 pub type-at-spec : {M : Type 1} → statement M
 type-at-spec =

@@ -15,7 +15,9 @@ payload-fits-requires : tie.Need-payload-fits-requires
 payload-fits-requires c κs = search needs
 
 returns : tie.Need-returns
-returns c = length-both mmWave _ _ _ _ (c .before .before .length-legal .ensures) (c .before .if1 .taken) (c .payload-fits .ensures)
+returns c =
+    let i1 = c .before in let l = i1 .before in
+    length-both mmWave _ _ _ _ (l .length-legal .ensures) (i1 .if1 .taken) (c .payload-fits .ensures)
 
 returns-2 : tie.Need-returns-2
 returns-2 c = length-not mmWave _ _ _ _ (c .before .length-legal .ensures) (c .if1 .left)

@@ -11,7 +11,9 @@ unfolding perObject
 returns c = rw (eq-eqb (c .before .args .objects) 0 (c .if1 .taken))
 
 mul-bytes : tie.Need-mul-bytes
-mul-bytes c = omega (arith, mul-le-mul {n₁ = c .before .args .size} {m₁ = c .before .args .objects} {n₂ = 255} {m₂ = 4294967295} (omega arith) (omega arith))
+mul-bytes c =
+    let start = c .before in
+    omega (arith, mul-le-mul {n₁ = start .args .size} {m₁ = start .args .objects} {n₂ = 255} {m₂ = 4294967295} (omega arith) (omega arith))
 
 returns-2 : tie.Need-returns-2
 unfolding perObject

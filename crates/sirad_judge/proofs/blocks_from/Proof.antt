@@ -1,4 +1,4 @@
--- `sirad::blocks_from` meets its contract. What is left of the blocks is judged as all are.
+-- What is left of the blocks is judged as all are.
 use borrow.Author.Needs.{needs}
 use mathlib.Core.Path.{_≡_, refl, sym, _∙_}
 use Rattle.form.specs.Form.{judgeAt}
@@ -24,7 +24,9 @@ enum-known-a : tie.Need-enum-known-a Inv-loop μ-loop
 enum-known-a c = search needs
 
 returns : tie.Need-returns Inv-loop μ-loop
-returns c = blocks-halt _ _ _ (c .before .before .loop-test .taken) (c .before .block-at .ensures) (c .match .keys2) ∙ sym (c .before .before .before .loop .inv)
+returns c =
+    let b = c .before in let turn = b .before in let l = turn .before in
+    blocks-halt _ _ _ (turn .loop-test .taken) (b .block-at .ensures) (c .match .keys2) ∙ sym (l .loop .inv)
 
 sub-left : tie.Need-sub-left Inv-loop μ-loop
 sub-left c = search needs
@@ -33,7 +35,9 @@ loop-less : tie.Need-loop-less Inv-loop μ-loop
 loop-less c = search needs
 
 loop-again : tie.Need-loop-again Inv-loop μ-loop
-loop-again c = c .before .before .before .before .before .loop .inv ∙ blocks-next _ _ _ (c .before .before .before .before .loop-test .taken) (c .before .before .before .block-at .ensures) (c .before .a .given .1)
+loop-again c =
+    let a = c .before in let b = a .before .before in let turn = b .before in let l = turn .before in
+    l .loop .inv ∙ blocks-next _ _ _ (turn .loop-test .taken) (b .block-at .ensures) (a .a .given .1)
 
 stop-requires : tie.Need-stop-requires Inv-loop μ-loop
 stop-requires c κs = search needs

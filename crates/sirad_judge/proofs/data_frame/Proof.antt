@@ -1,4 +1,4 @@
--- `sirad::data_frame` meets its contract. The size, the run of reserved bytes and data, the stop marker.
+-- The size, the run of reserved bytes and data, the stop marker.
 use borrow.Author.Needs.{needs}
 use mathlib.Core.Path.{sym, _∙_}
 use Rattle.form.proofs.Laws.{go-on, halt}
@@ -15,7 +15,9 @@ enum-known-a : tie.Need-enum-known-a
 enum-known-a c = search needs
 
 returns : tie.Need-returns
-returns c = halt _ (λ n. row (dataPieces n) (c .before .before .before .args .kind)) _ _ (c .before .hex-number .ensures) (c .match .keys2)
+returns c =
+    let h = c .before in let start = h .before .before in
+    halt _ (λ n. row (dataPieces n) (start .args .kind)) _ _ (h .hex-number .ensures) (c .match .keys2)
 
 cast-count : tie.Need-cast-count
 cast-count c = search needs
@@ -30,18 +32,24 @@ enum-known-b : tie.Need-enum-known-b
 enum-known-b c = search needs
 
 returns-2 : tie.Need-returns-2
-returns-2 c = halt _ _ _ _ (c .before .chars .ensures) (c .match2 .keys2)
+returns-2 c =
+    let ch = c .before in let a = ch .before .before in let h = a .before .before in
+    let start = h .before .before in
+    halt _ _ _ _ (ch .chars .ensures) (c .match2 .keys2)
     ∙ sym (data-form _ _ _ _)
-    ∙ sym (go-on _ (λ n. row (dataPieces n) (c .before .before .before .before .before .before .before .args .kind)) _ _ (c .before .before .before .before .before .hex-number .ensures) (c .before .before .before .a .given .1))
+    ∙ sym (go-on _ (λ n. row (dataPieces n) (start .args .kind)) _ _ (h .hex-number .ensures) (a .a .given .1))
 
 stop-requires : tie.Need-stop-requires
 stop-requires c κs = search needs
 
 returns-3 : tie.Need-returns-3
-returns-3 c = c .stop .ensures
-    ∙ sym (go-on _ _ _ _ (c .before .before .before .before .chars .ensures) (c .before .before .b .given .1))
+returns-3 c =
+    let b = c .before .before in let ch = b .before .before in let a = ch .before .before in
+    let h = a .before .before in let start = h .before .before in
+    c .stop .ensures
+    ∙ sym (go-on _ _ _ _ (ch .chars .ensures) (b .b .given .1))
     ∙ sym (data-form _ _ _ _)
-    ∙ sym (go-on _ (λ n. row (dataPieces n) (c .before .before .before .before .before .before .before .before .before .before .args .kind)) _ _ (c .before .before .before .before .before .before .before .before .hex-number .ensures) (c .before .before .before .before .before .before .a .given .1))
+    ∙ sym (go-on _ (λ n. row (dataPieces n) (start .args .kind)) _ _ (h .hex-number .ensures) (a .a .given .1))
 
 pub data-frame-spec : {M : Type 1} → statement M
 data-frame-spec =

@@ -1,4 +1,4 @@
--- `sirad::digit_of` meets its contract. A hex digit below `A` is a figure, any other a letter.
+-- A hex digit below `A` is a figure, any other a letter.
 use borrow.Author.Needs.{needs}
 use native.Mathlib.Omega.{arith}
 use Rattle.digits.proofs.HexLaws.{hex-range}

@@ -1,4 +1,4 @@
--- `sirad::error_flags` meets its contract. The digits, the stop marker.
+-- The digits, the stop marker.
 use borrow.Author.Needs.{needs}
 use mathlib.Core.Path.{sym, _∙_}
 use Rattle.form.proofs.Laws.{go-on, halt}
@@ -20,9 +20,9 @@ stop-requires : tie.Need-stop-requires
 stop-requires c κs = search needs
 
 returns-2 : tie.Need-returns-2
-returns-2 c = c .stop .ensures
-    ∙ sym (go-on _ _ _ _ (c .before .before .before .before .run-of .ensures) (c .before .before .a .given .1))
-    ∙ sym (error-form _ _)
+returns-2 c =
+    let a = c .before .before in let r = a .before .before in
+    c .stop .ensures ∙ sym (go-on _ _ _ _ (r .run-of .ensures) (a .a .given .1)) ∙ sym (error-form _ _)
 
 pub error-flags-spec : {M : Type 1} → statement M
 error-flags-spec = tie.close (tie.spec run-of-requires enum-known-a returns stop-requires returns-2)

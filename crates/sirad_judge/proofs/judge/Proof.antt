@@ -1,4 +1,4 @@
--- `sirad::judge` meets its contract. Start marker, identifier, then the body that it announces.
+-- Start marker, identifier, then the body that it announces.
 use borrow.Author.Needs.{needs}
 use mathlib.Core.Path.{refl, sym, _∙_}
 use Rattle.form.proofs.Laws.{judges}
@@ -17,7 +17,9 @@ returns-2 : tie.Need-returns-2
 returns-2 c = judges (judge-no-start _ (c .before .before .if1 .left) (c .if2 .taken))
 
 returns-3 : tie.Need-returns-3
-returns-3 c = judges (judge-start _ (c .before .before .before .if1 .left) (c .before .if2 .left) (c .if3 .taken))
+returns-3 c =
+    let i2 = c .before in let i1 = i2 .before .before in
+    judges (judge-start _ (i1 .if1 .left) (i2 .if2 .left) (c .if3 .taken))
 
 shared-slice-read-kind-of : tie.Need-shared-slice-read-kind-of
 shared-slice-read-kind-of c = search needs
@@ -54,26 +56,36 @@ enum-told-4 c = search needs
 
 returns-4 : tie.Need-returns-4
 unfolding body
-returns-4 c = judges (c .data-frame .ensures
-    ∙ sym (judge-body _ (c .before .before .before .before .before .before .if3 .left) (c .before .before .before .before .before .before .before .if2 .left) _ (sym (c .before .before .before .before .kind-of .ensures) ∙ c .before .before .kind .given .1) refl))
+returns-4 c =
+    let k = c .before .before in let o = k .before .before in let i3 = o .before .before in let i2 = i3 .before in
+    judges (c .data-frame .ensures ∙ sym (judge-body _ (i3 .if3 .left) (i2 .if2 .left) _
+    (sym (o .kind-of .ensures) ∙ k .kind .given .1) refl))
 
 returns-5 : tie.Need-returns-5
 unfolding body
-returns-5 c = judges (c .target-list .ensures
-    ∙ sym (judge-body _ (c .before .before .before .before .before .if3 .left) (c .before .before .before .before .before .before .if2 .left) _ (sym (c .before .before .before .kind-of .ensures) ∙ c .before .enum-told .given .1) refl))
+returns-5 c =
+    let en = c .before in let k = en .before .before in let i3 = k .before .before in let i2 = i3 .before in
+    judges (c .target-list .ensures ∙ sym (judge-body _ (i3 .if3 .left) (i2 .if2 .left) _
+    (sym (k .kind-of .ensures) ∙ en .enum-told .given .1) refl))
 
 returns-6 : tie.Need-returns-6
 unfolding body
-returns-6 c = judges (c .status-update .ensures
-    ∙ sym (judge-body _ (c .before .before .before .before .before .if3 .left) (c .before .before .before .before .before .before .if2 .left) _ (sym (c .before .before .before .kind-of .ensures) ∙ c .before .enum-told2 .given .1) refl))
+returns-6 c =
+    let e2 = c .before in let k = e2 .before .before in let i3 = k .before .before in let i2 = i3 .before in
+    judges (c .status-update .ensures ∙ sym
+    (judge-body _ (i3 .if3 .left) (i2 .if2 .left) _ (sym (k .kind-of .ensures) ∙ e2 .enum-told2 .given .1) refl))
 
 returns-7 : tie.Need-returns-7
 unfolding body
-returns-7 c = judges (c .error-flags .ensures
-    ∙ sym (judge-body _ (c .before .before .before .before .before .if3 .left) (c .before .before .before .before .before .before .if2 .left) _ (sym (c .before .before .before .kind-of .ensures) ∙ c .before .enum-told3 .given .1) refl))
+returns-7 c =
+    let e3 = c .before in let k = e3 .before .before in let i3 = k .before .before in let i2 = i3 .before in
+    judges (c .error-flags .ensures ∙ sym (judge-body _ (i3 .if3 .left) (i2 .if2 .left) _
+    (sym (k .kind-of .ensures) ∙ e3 .enum-told3 .given .1) refl))
 
 returns-8 : tie.Need-returns-8
-returns-8 c = judges (judge-unknown _ (c .before .before .before .before .if3 .left) (c .before .before .before .before .before .if2 .left) (sym (c .before .before .kind-of .ensures) ∙ c .enum-told4 .given .1))
+returns-8 c =
+    let k = c .before .before in let i3 = k .before .before in let i2 = i3 .before in
+    judges (judge-unknown _ (i3 .if3 .left) (i2 .if2 .left) (sym (k .kind-of .ensures) ∙ c .enum-told4 .given .1))
 
 pub judge-spec : {M : Type 1} → statement M
 judge-spec =

@@ -1,4 +1,4 @@
--- `sirad::kind_of` meets its contract. One arm for each identifier; behind them none matches.
+-- One arm for each identifier; behind them none matches.
 use borrow.Author.Needs.{needs}
 use borrow.Author.Tests.{ne-eqb}
 use Rattle.sirad_judge.proofs.kind_of.Statement.{statement}

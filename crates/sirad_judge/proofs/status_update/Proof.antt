@@ -1,4 +1,4 @@
--- `sirad::status_update` meets its contract. Format and gain, the digits, the stop marker.
+-- Format and gain, the digits, the stop marker.
 use borrow.Author.Needs.{needs}
 use mathlib.Core.Path.{sym, _∙_}
 use Rattle.form.proofs.Laws.{go-on, halt}
@@ -23,17 +23,22 @@ enum-known-b : tie.Need-enum-known-b
 enum-known-b c = search needs
 
 returns-2 : tie.Need-returns-2
-returns-2 c = halt _ _ _ _ (c .before .run-of .ensures) (c .match2 .keys2)
-    ∙ sym (go-on _ _ _ _ (c .before .before .before .before .before .head-at .ensures) (c .before .before .before .a .given .1))
+returns-2 c =
+    let r = c .before in let a = r .before .before in let h = a .before .before in
+    halt _ _ _ _ (r .run-of .ensures) (c .match2 .keys2)
+    ∙ sym (go-on _ _ _ _ (h .head-at .ensures) (a .a .given .1))
     ∙ sym (status-form _ _)
 
 stop-requires : tie.Need-stop-requires
 stop-requires c κs = search needs
 
 returns-3 : tie.Need-returns-3
-returns-3 c = c .stop .ensures
-    ∙ sym (go-on _ _ _ _ (c .before .before .before .before .run-of .ensures) (c .before .before .b .given .1))
-    ∙ sym (go-on _ _ _ _ (c .before .before .before .before .before .before .before .before .head-at .ensures) (c .before .before .before .before .before .before .a .given .1))
+returns-3 c =
+    let b = c .before .before in let r = b .before .before in let a = r .before .before in
+    let h = a .before .before in
+    c .stop .ensures
+    ∙ sym (go-on _ _ _ _ (r .run-of .ensures) (b .b .given .1))
+    ∙ sym (go-on _ _ _ _ (h .head-at .ensures) (a .a .given .1))
     ∙ sym (status-form _ _)
 
 pub status-update-spec : {M : Type 1} → statement M

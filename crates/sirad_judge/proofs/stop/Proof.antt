@@ -1,4 +1,4 @@
--- `sirad::stop` meets its contract. The two stop bytes, one after the other.
+-- The two stop bytes, one after the other.
 use borrow.Author.Needs.{needs}
 use mathlib.Core.Path.{sym, _∙_}
 use Rattle.form.proofs.Laws.{go-on, halt}
@@ -24,14 +24,18 @@ enum-known-b : tie.Need-enum-known-b
 enum-known-b c = search needs
 
 returns-2 : tie.Need-returns-2
-returns-2 c = halt _ _ _ _ (c .before .byte-of2 .ensures) (c .match2 .keys2)
-    ∙ sym (go-on _ _ _ _ (c .before .before .before .before .before .byte-of .ensures) (c .before .before .before .a .given .1))
+returns-2 c =
+    let b2 = c .before in let a = b2 .before .before in let b = a .before .before in
+    halt _ _ _ _ (b2 .byte-of2 .ensures) (c .match2 .keys2)
+    ∙ sym (go-on _ _ _ _ (b .byte-of .ensures) (a .a .given .1))
     ∙ sym (stop-form _ _ _)
 
 returns-3 : tie.Need-returns-3
-returns-3 c = whole-here _ _ _
-    ∙ sym (go-on _ _ _ _ (c .before .before .before .byte-of2 .ensures) (c .before .b .given .1))
-    ∙ sym (go-on _ _ _ _ (c .before .before .before .before .before .before .before .byte-of .ensures) (c .before .before .before .before .before .a .given .1))
+returns-3 c =
+    let b = c .before in let b2 = b .before .before in let a = b2 .before .before in let o = a .before .before in
+    whole-here _ _ _
+    ∙ sym (go-on _ _ _ _ (b2 .byte-of2 .ensures) (b .b .given .1))
+    ∙ sym (go-on _ _ _ _ (o .byte-of .ensures) (a .a .given .1))
     ∙ sym (stop-form _ _ _)
 
 pub stop-spec : {M : Type 1} → statement M

@@ -1,4 +1,4 @@
--- `sirad::target_list` meets its contract. Format and gain, the blocks, the stop marker.
+-- Format and gain, the blocks, the stop marker.
 use borrow.Author.Needs.{needs}
 use mathlib.Core.Path.{sym, _∙_}
 use Rattle.form.proofs.Laws.{go-on, halt}
@@ -20,9 +20,9 @@ blocks-from-requires : tie.Need-blocks-from-requires
 blocks-from-requires c κs = search needs
 
 returns-2 : tie.Need-returns-2
-returns-2 c = c .blocks-from .ensures
-    ∙ sym (go-on _ _ _ _ (c .before .before .before .before .head-at .ensures) (c .before .before .a .given .1))
-    ∙ sym (targets-form _ _)
+returns-2 c =
+    let a = c .before .before in let h = a .before .before in
+    c .blocks-from .ensures ∙ sym (go-on _ _ _ _ (h .head-at .ensures) (a .a .given .1)) ∙ sym (targets-form _ _)
 
 pub target-list-spec : {M : Type 1} → statement M
 target-list-spec =

@@ -1,4 +1,4 @@
--- `sirad::all_of` meets its contract. While the flag is true, what is left of the run is judged as the whole run is.
+-- While the flag is true, what is left of the run is judged as the whole run is.
 use Prim.Native.Nat.{_≤_, _-_}
 use borrow.Author.Needs.{needs}
 use mathlib.Core.Bool.{true}
@@ -36,10 +36,21 @@ loop-less : tie.Need-loop-less Inv-loop μ-loop
 loop-less c = omega arith
 
 loop-again : tie.Need-loop-again Inv-loop μ-loop
-loop-again c = let a = c .before .before .before .before .before .before .args in let l = c .before .before .before .before .loop in (omega arith, seen-next (a .s .now) (a .from) (a .n) (a .c) (l .i) (l .ok) (c .before .is-of .result) (c .both .result) (c .before .before .before .loop-test .taken) (c .before .before .before .before .before .before .pre) (l .inv .1) (c .before .is-of .ensures) (c .both .ensures))
+loop-again c =
+    let i = c .before in let turn = i .before .before in let lp = turn .before in
+    let start = lp .before .before in
+    let a = start .args in
+    let l = lp .loop in (
+      omega arith,
+      seen-next (a .s .now) (a .from) (a .n) (a .c) (l .i) (l .ok) (i .is-of .result) (c .both .result) (turn .loop-test .taken)
+          (start .pre) (l .inv .1) (i .is-of .ensures) (c .both .ensures),
+    )
 
 returns : tie.Need-returns Inv-loop μ-loop
-returns c = λ y. let a = c .before .before .before .args in let l = c .before .loop in seen-all (a .s .now) (a .from) (a .n) (a .c) (l .i) (l .inv .0) (c .loop-test .left) (l .inv .1 y)
+returns c =
+    let lp = c .before in let start = lp .before .before in
+    λ y. let a = start .args in let l = lp .loop in
+    seen-all (a .s .now) (a .from) (a .n) (a .c) (l .i) (l .inv .0) (c .loop-test .left) (l .inv .1 y)
 
 pub all-of-spec : {M : Type 1} → statement M
 all-of-spec =

@@ -1,4 +1,4 @@
--- `sirad::block_at` meets its contract. All seen at once, or else run by run.
+-- All seen at once, or else run by run.
 use borrow.Author.Needs.{needs}
 use mathlib.Core.Path.{sym}
 use Rattle.sirad_pieces.proofs.block_at.Statement.{statement}

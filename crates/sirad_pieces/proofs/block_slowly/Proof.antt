@@ -1,4 +1,4 @@
--- `sirad::block_slowly` meets its contract. The four runs of a block, one after the other.
+-- The four runs of a block, one after the other.
 use borrow.Author.Needs.{needs}
 use mathlib.Core.Path.{sym, _∙_}
 use Rattle.form.proofs.Laws.{go-on, halt}
@@ -23,9 +23,9 @@ enum-known-b : tie.Need-enum-known-b
 enum-known-b c = search needs
 
 returns-2 : tie.Need-returns-2
-returns-2 c = halt _ _ _ _ (c .before .span2 .ensures) (c .match2 .keys2)
-    ∙ sym (go-on _ _ _ _ (c .before .before .before .before .before .span .ensures) (c .before .before .before .a .given .1))
-    ∙ sym (block-form _ _)
+returns-2 c =
+    let s2 = c .before in let a = s2 .before .before in let s = a .before .before in
+    halt _ _ _ _ (s2 .span2 .ensures) (c .match2 .keys2) ∙ sym (go-on _ _ _ _ (s .span .ensures) (a .a .given .1)) ∙ sym (block-form _ _)
 
 span-requires-3 : tie.Need-span-requires-3
 span-requires-3 c κs = search needs
@@ -34,19 +34,25 @@ enum-known-c : tie.Need-enum-known-c
 enum-known-c c = search needs
 
 returns-3 : tie.Need-returns-3
-returns-3 c = halt _ _ _ _ (c .before .span3 .ensures) (c .match3 .keys2)
-    ∙ sym (go-on _ _ _ _ (c .before .before .before .before .before .span2 .ensures) (c .before .before .before .b .given .1))
-    ∙ sym (go-on _ _ _ _ (c .before .before .before .before .before .before .before .before .before .span .ensures) (c .before .before .before .before .before .before .before .a .given .1))
+returns-3 c =
+    let s3 = c .before in let b = s3 .before .before in let s2 = b .before .before in
+    let a = s2 .before .before in let s = a .before .before in
+    halt _ _ _ _ (s3 .span3 .ensures) (c .match3 .keys2)
+    ∙ sym (go-on _ _ _ _ (s2 .span2 .ensures) (b .b .given .1))
+    ∙ sym (go-on _ _ _ _ (s .span .ensures) (a .a .given .1))
     ∙ sym (block-form _ _)
 
 span-requires-4 : tie.Need-span-requires-4
 span-requires-4 c κs = search needs
 
 returns-4 : tie.Need-returns-4
-returns-4 c = c .span4 .ensures
-    ∙ sym (go-on _ _ _ _ (c .before .before .before .before .span3 .ensures) (c .before .before .c .given .1))
-    ∙ sym (go-on _ _ _ _ (c .before .before .before .before .before .before .before .before .span2 .ensures) (c .before .before .before .before .before .before .b .given .1))
-    ∙ sym (go-on _ _ _ _ (c .before .before .before .before .before .before .before .before .before .before .before .before .span .ensures) (c .before .before .before .before .before .before .before .before .before .before .a .given .1))
+returns-4 c =
+    let w = c .before .before in let s3 = w .before .before in let b = s3 .before .before in
+    let s2 = b .before .before in let a = s2 .before .before in let s = a .before .before in
+    c .span4 .ensures
+    ∙ sym (go-on _ _ _ _ (s3 .span3 .ensures) (w .c .given .1))
+    ∙ sym (go-on _ _ _ _ (s2 .span2 .ensures) (b .b .given .1))
+    ∙ sym (go-on _ _ _ _ (s .span .ensures) (a .a .given .1))
     ∙ sym (block-form _ _)
 
 pub block-slowly-spec : {M : Type 1} → statement M

@@ -1,4 +1,4 @@
--- `sirad::byte_of` meets its contract. No byte is there, it passes, or it is refused.
+-- No byte is there, it passes, or it is refused.
 use borrow.Author.Needs.{needs}
 use mathlib.Core.Path.{sym, ap, _∙_}
 use native.Mathlib.Omega.{arith}
@@ -20,16 +20,22 @@ add-end : tie.Need-add-end
 add-end c = search needs
 
 cast-v : tie.Need-cast-v
-cast-v c = omega (arith, c .before .before .shared-slice-known2 .given (c .before .before .before .before .before .args .at))
+cast-v c =
+    let known2 = c .before .before in let start = known2 .before .before .before in
+    omega (arith, known2 .shared-slice-known2 .given (start .args .at))
 
 returns-2 : tie.Need-returns-2
-returns-2 c = one-hit _ _ _ _ (c .before .before .before .if1 .left) (sym (c .before .is-of .ensures) ∙ c .if2 .taken)
+returns-2 c =
+    let i = c .before in let i1 = i .before .before in
+    one-hit _ _ _ _ (i1 .if1 .left) (sym (i .is-of .ensures) ∙ c .if2 .taken)
 
 reason-of-requires : tie.Need-reason-of-requires
 reason-of-requires c κs = search needs
 
 returns-3 : tie.Need-returns-3
-returns-3 c = ap Bad (c .reason-of .ensures) ∙ one-miss _ _ _ _ (c .before .before .before .before .if1 .left) (sym (c .before .before .is-of .ensures) ∙ c .before .if2 .left)
+returns-3 c =
+    let i2 = c .before in let i = i2 .before in let i1 = i .before .before in
+    ap Bad (c .reason-of .ensures) ∙ one-miss _ _ _ _ (i1 .if1 .left) (sym (i .is-of .ensures) ∙ i2 .if2 .left)
 
 pub byte-of-spec : {M : Type 1} → statement M
 byte-of-spec =

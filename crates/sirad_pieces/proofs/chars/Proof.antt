@@ -1,4 +1,4 @@
--- `sirad::chars` meets its contract. What is left of the run is judged as the whole run is; each turn takes a part of it.
+-- What is left of the run is judged as the whole run is; each turn takes a part of it.
 use borrow.Author.Needs.{needs}
 use mathlib.Core.Path.{_≡_, refl, sym, _∙_}
 use native.Mathlib.Omega.{arith}
@@ -28,16 +28,24 @@ enum-known-a : tie.Need-enum-known-a Inv-loop μ-loop
 enum-known-a c = search needs
 
 returns : tie.Need-returns Inv-loop μ-loop
-returns c = part-halts _ _ _ _ _ (c .before .before .step-of .ensures .most) (c .before .run-of .ensures) (c .match .keys2) ∙ sym (c .before .before .before .before .loop .inv)
+returns c =
+    let r = c .before in let s = r .before in let l = s .before .before in
+    part-halts _ _ _ _ _ (s .step-of .ensures .most) (r .run-of .ensures) (c .match .keys2) ∙ sym (l .loop .inv)
 
 sub-left : tie.Need-sub-left Inv-loop μ-loop
-sub-left c = omega (arith, c .before .before .before .before .step-of .ensures .most)
+sub-left c =
+    let s = c .before .before .before .before in
+    omega (arith, s .step-of .ensures .most)
 
 loop-less : tie.Need-loop-less Inv-loop μ-loop
-loop-less c = omega (arith, c .before .before .before .before .step-of .ensures .most, c .before .before .before .before .step-of .ensures .some (c .before .before .before .before .before .loop-test .taken))
+loop-less c =
+    let s = c .before .before .before .before in let turn = s .before in
+    omega (arith, s .step-of .ensures .most, s .step-of .ensures .some (turn .loop-test .taken))
 
 loop-again : tie.Need-loop-again Inv-loop μ-loop
-loop-again c = c .before .before .before .before .before .before .loop .inv ∙ part-next _ _ _ _ _ (c .before .before .before .before .step-of .ensures .most) (c .before .before .before .run-of .ensures) (c .before .a .given .1)
+loop-again c =
+    let a = c .before in let r = a .before .before in let s = r .before in let l = s .before .before in
+    l .loop .inv ∙ part-next _ _ _ _ _ (s .step-of .ensures .most) (r .run-of .ensures) (a .a .given .1)
 
 returns-2 : tie.Need-returns-2 Inv-loop μ-loop
 returns-2 c = run-over _ _ _ _ (c .loop-test .left) ∙ sym (c .before .loop .inv)

@@ -1,4 +1,4 @@
--- `sirad::is_of` meets its contract. One arm for each class.
+-- One arm for each class.
 use borrow.Author.Needs.{needs}
 use Rattle.sirad_pieces.proofs.is_of.Statement.{statement}
 use Rattle.sirad_pieces.proofs.is_of.Tie as tie

@@ -1,4 +1,4 @@
--- `sirad::seen_block` meets its contract. The four runs of a block, and the flag of all.
+-- The four runs of a block, and the flag of all.
 use borrow.Author.Needs.{needs}
 use Rattle.sirad.proofs.Laws.{block-seen}
 use Rattle.sirad_pieces.proofs.seen_block.Statement.{statement}
@@ -35,7 +35,13 @@ both-requires-3 : tie.Need-both-requires-3
 both-requires-3 c κs = search needs
 
 returns : tie.Need-returns
-returns c = let a = c .before .before .before .before .before .before .before .before .args in block-seen (a .p) (a .s .now) (c .before .before .before .before .before .before .all-of .result) (c .before .before .before .before .before .all-of2 .result) (c .before .before .before .before .all-of3 .result) (c .before .before .before .all-of4 .result) (c .before .before .both .result) (c .before .both2 .result) (c .both3 .result) (c .before .before .before .before .before .before .all-of .ensures) (c .before .before .before .before .before .all-of2 .ensures) (c .before .before .before .before .all-of3 .ensures) (c .before .before .before .all-of4 .ensures) (c .before .before .both .ensures) (c .before .both2 .ensures) (c .both3 .ensures)
+returns c =
+    let b2 = c .before in let b = b2 .before in let a4 = b .before in let a3 = a4 .before in
+    let a2 = a3 .before in let o = a2 .before in let start = o .before .before in
+    let a = start .args in
+    block-seen (a .p) (a .s .now) (o .all-of .result) (a2 .all-of2 .result) (a3 .all-of3 .result) (a4 .all-of4 .result) (b .both .result)
+    (b2 .both2 .result) (c .both3 .result) (o .all-of .ensures) (a2 .all-of2 .ensures) (a3 .all-of3 .ensures) (a4 .all-of4 .ensures)
+    (b .both .ensures) (b2 .both2 .ensures) (c .both3 .ensures)
 
 pub seen-block-spec : {M : Type 1} → statement M
 seen-block-spec =

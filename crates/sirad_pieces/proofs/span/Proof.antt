@@ -1,4 +1,4 @@
--- `sirad::span` meets its contract. What is left of the run is judged as the whole run is.
+-- What is left of the run is judged as the whole run is.
 use borrow.Author.Needs.{needs}
 use mathlib.Core.Path.{_≡_, refl, sym, _∙_}
 use Rattle.form.specs.Form.{judgeAt}
@@ -23,7 +23,9 @@ enum-known-a : tie.Need-enum-known-a Inv-loop μ-loop
 enum-known-a c = search needs
 
 returns : tie.Need-returns Inv-loop μ-loop
-returns c = run-halts _ _ _ _ (c .before .before .loop-test .taken) (c .before .byte-of .ensures) (c .match .keys2) ∙ sym (c .before .before .before .loop .inv)
+returns c =
+    let b = c .before in let turn = b .before in let l = turn .before in
+    run-halts _ _ _ _ (turn .loop-test .taken) (b .byte-of .ensures) (c .match .keys2) ∙ sym (l .loop .inv)
 
 sub-left : tie.Need-sub-left Inv-loop μ-loop
 sub-left c = search needs
@@ -32,7 +34,9 @@ loop-less : tie.Need-loop-less Inv-loop μ-loop
 loop-less c = search needs
 
 loop-again : tie.Need-loop-again Inv-loop μ-loop
-loop-again c = c .before .before .before .before .before .loop .inv ∙ run-next _ _ _ _ (c .before .before .before .before .loop-test .taken) (c .before .before .before .byte-of .ensures) (c .before .a .given .1)
+loop-again c =
+    let a = c .before in let b = a .before .before in let turn = b .before in let l = turn .before in
+    l .loop .inv ∙ run-next _ _ _ _ (turn .loop-test .taken) (b .byte-of .ensures) (a .a .given .1)
 
 returns-2 : tie.Need-returns-2 Inv-loop μ-loop
 returns-2 c = run-over _ _ _ _ (c .loop-test .left) ∙ sym (c .before .loop .inv)

@@ -1,0 +1,276 @@
+//! Judgements over grids: a SiRad frame of each kind cut anywhere and with every value of every byte; packets at the limits
+//! of every total length, with all types, payload lengths and object counts, false starts, cut and damaged.
+//!
+//! The counts were made with the judgements of tests/expected/judge_cases.py, which know nothing of this reader. The
+//! library is judged too if `VQ_LIB_DIR` names the directory that holds the archives.
+
+use radar_reference::abi::{Reference, Subject, BAD, WHOLE};
+use radar_reference::compare::check_judgement;
+use radar_reference::judgement::{MMWAVE, SIRAD};
+use radar_reference::mmwave::MAGIC;
+
+/// How judgements fell: whole, bad, waiting.
+type Counts = [u64; 3];
+
+/// The reader itself, and the library.
+fn subjects() -> Vec<Box<dyn Subject>> {
+    #[allow(unused_mut)]
+    let mut subjects: Vec<Box<dyn Subject>> = vec![Box::new(Reference)];
+    #[cfg(gateway_linked)]
+    subjects.push(Box::new(radar_reference::gateway::Gateway));
+    subjects
+}
+
+struct Grid {
+    dialect: u32,
+    subjects: Vec<Box<dyn Subject>>,
+    counts: Counts,
+}
+
+impl Grid {
+    fn of(dialect: u32) -> Grid {
+        Grid { dialect, subjects: subjects(), counts: [0; 3] }
+    }
+
+    fn judge(&mut self, bytes: &[u8]) {
+        for subject in &self.subjects {
+            let answer = check_judgement(subject.as_ref(), self.dialect, bytes, 0);
+            let answer = answer.unwrap_or_else(|what| panic!("{what}: {bytes:02x?}"));
+            let index = match answer.state {
+                WHOLE => 0,
+                BAD => 1,
+                _ => 2,
+            };
+            self.counts[index] += 1;
+        }
+    }
+
+    /// Every subject gave these answers.
+    fn assert(&self, name: &str, expected: Counts) {
+        assert_eq!(self.counts, expected.map(|count| count * self.subjects.len() as u64), "{name}");
+    }
+}
+
+// SiRad
+
+/// A frame with this front, zeros as all its other bytes; then the counts of its cuts and of its damages.
+const FRAMES: [(&str, usize, usize, Counts, Counts); 7] = [
+    ("!R0000", 16, 1, [1, 0, 16], [1778, 2318, 0]),
+    ("!P0001", 17, 1, [1, 0, 17], [1999, 2353, 0]),
+    ("!C00FF", 271, 1, [1, 0, 271], [58133, 11243, 0]),
+    ("!T5Z00", 230, 1, [1, 0, 230], [20225, 38655, 0]),
+    ("!U5Z00", 26, 1, [1, 0, 26], [561, 6095, 0]),
+    ("!E0001", 8, 1, [1, 0, 8], [68, 1980, 0]),
+    ("!PFFFF", 65551, 13103, [1, 0, 6], [1106, 430, 0]),
+];
+
+fn frame(front: &str, length: usize) -> Vec<u8> {
+    let mut frame = front.as_bytes().to_vec();
+    frame.resize(length - 2, b'0');
+    frame.extend_from_slice(b"\r\n");
+    frame
+}
+
+#[test]
+fn frames_cut_anywhere() {
+    for (front, length, step, expected, _) in FRAMES {
+        let frame = frame(front, length);
+        let mut grid = Grid::of(SIRAD);
+        for end in (0..length).step_by(step).chain([length]) {
+            grid.judge(&frame[..end]);
+        }
+        grid.assert(front, expected);
+    }
+}
+
+#[test]
+fn frames_with_every_value_of_every_byte() {
+    for (front, length, step, _, expected) in FRAMES {
+        let mut frame = frame(front, length);
+        let mut grid = Grid::of(SIRAD);
+        for place in (0..length).step_by(step) {
+            let right = frame[place];
+            for value in 0..=255 {
+                frame[place] = value;
+                grid.judge(&frame);
+            }
+            frame[place] = right;
+        }
+        grid.assert(front, expected);
+    }
+}
+
+// mmWave
+
+/// Bytes that no field sets: payloads and padding.
+fn filled() -> Vec<u8> {
+    (0..33_000).map(|index| (3 + 7 * index) as u8).collect()
+}
+
+fn put(bytes: &mut [u8], place: usize, number: u32) {
+    if let Some(field) = bytes.get_mut(place..place.saturating_add(4)) {
+        field.copy_from_slice(&number.to_le_bytes());
+    }
+}
+
+fn header(bytes: &mut [u8], place: usize, total: u32, objects: u32, records: u32) {
+    bytes[place..place + 8].copy_from_slice(&MAGIC);
+    let fields = [0x0305_0004, total, 0x000A_6843, 7, u32::MAX, objects, records, 3];
+    for (index, number) in fields.into_iter().enumerate() {
+        put(bytes, place + 8 + 4 * index, number);
+    }
+}
+
+fn record(bytes: &mut [u8], place: usize, kind: u32, length: u32) {
+    put(bytes, place, kind);
+    put(bytes, place.saturating_add(4), length);
+}
+
+/// Free records without payloads, but for the last; the packet whole and without its last byte.
+fn judge_records(grid: &mut Grid, bytes: &mut [u8], total: u32, records: u32, last: u32) {
+    header(bytes, 0, total, 0, records);
+    for index in 0..records as usize {
+        record(bytes, 40 + 8 * index, 10, 0);
+    }
+    put(bytes, 36 + 8 * records as usize, last);
+    grid.judge(&bytes[..total as usize]);
+    grid.judge(&bytes[..total as usize - 1]);
+}
+
+/// No record, one, the most, one more than that, 33; no padding, the most, one byte too much, a payload too long.
+#[test]
+fn every_total_length_at_its_limits() {
+    let mut grid = Grid::of(MMWAVE);
+    let mut bytes = filled();
+    for total in (64..=32_768u32).step_by(32) {
+        let most = ((total - 40) / 8).min(32);
+        for records in [0, 1, most, most + 1, 33] {
+            let room = total.wrapping_sub(40 + 8 * records);
+            for last in [room, room.wrapping_sub(31), room.wrapping_sub(32), room.wrapping_add(1)] {
+                judge_records(&mut grid, &mut bytes, total, records, last);
+            }
+        }
+    }
+    grid.assert("totals", [4086, 24544 + 8180, 4110]);
+}
+
+#[test]
+fn illegal_total_lengths_with_and_without_their_last_byte() {
+    let mut grid = Grid::of(MMWAVE);
+    let mut bytes = filled();
+    for total in [0, 32, 63, 65, 80, 100, 32_767, 32_769, 32_800, 65_536, 1 << 31, u32::MAX - 31] {
+        header(&mut bytes, 0, total, 0, 0);
+        grid.judge(&bytes[..15]);
+        grid.judge(&bytes[..16]);
+    }
+    grid.assert("illegal totals", [0, 12, 12]);
+}
+
+#[test]
+fn thirty_two_records_without_payloads() {
+    let mut grid = Grid::of(MMWAVE);
+    for total in [288, 320, 352] {
+        judge_records(&mut grid, &mut filled(), total, 32, 0);
+    }
+    grid.assert("empty records", [1, 4, 1]);
+}
+
+/// One record of the type; a second one is free and fills the rest.
+fn judge_single(grid: &mut Grid, bytes: &mut [u8], total: u32, objects: u32, records: u32, kind: u32, length: u32) {
+    header(bytes, 0, total, objects, records);
+    record(bytes, 48 + length as usize, 10, total.wrapping_sub(56).wrapping_sub(length));
+    record(bytes, 40, kind, length);
+    grid.judge(&bytes[..total as usize]);
+}
+
+/// 16 and 4 times some of the object counts pass 32 bits.
+#[test]
+fn records_by_object_count() {
+    let mut grid = Grid::of(MMWAVE);
+    let mut bytes = filled();
+    for objects in [0, 1, 2, 3, 1 << 28, (1 << 28) + 1, 1 << 30, u32::MAX] {
+        for total in [64, 96, 128, 32_768] {
+            for (kind, records) in [(1, 1), (1, 2), (7, 1), (7, 2)] {
+                for length in [0, 4, 16, 17, objects.wrapping_mul(4), objects.wrapping_mul(16)] {
+                    judge_single(&mut grid, &mut bytes, total, objects, records, kind, length);
+                }
+            }
+        }
+    }
+    grid.assert("objects", [34, 618 + 116, 0]);
+}
+
+#[test]
+fn all_types_with_payloads_up_to_80_bytes() {
+    let mut grid = Grid::of(MMWAVE);
+    let mut bytes = filled();
+    for length in 0..81 {
+        for kind in (0..12).chain([255, 65_542, u32::MAX]) {
+            for total in [64, 96, 128] {
+                for (objects, records) in [(0, 1), (1, 1), (2, 1), (2, 2)] {
+                    judge_single(&mut grid, &mut bytes, total, objects, records, kind, length);
+                }
+            }
+        }
+    }
+    grid.assert("types", [2965, 2349 + 9266, 0]);
+}
+
+/// The first bytes of a header, then a packet: judged at both places.
+#[test]
+fn false_starts_in_front_of_a_packet() {
+    let mut grid = Grid::of(MMWAVE);
+    let mut bytes = filled();
+    for place in 0..41 {
+        header(&mut bytes, 0, 64, 0, 0);
+        header(&mut bytes, place, 64, 0, 0);
+        grid.judge(&bytes[..64 + place]);
+        grid.judge(&bytes[place..place + 64]);
+    }
+    grid.assert("false starts", [47, 7 + 8 + 20, 0]);
+}
+
+/// A packet of 160 bytes with three records: points, statistics and a free one; a byte stands behind it.
+fn three_records() -> Vec<u8> {
+    let mut bytes = filled();
+    header(&mut bytes, 0, 160, 2, 3);
+    record(&mut bytes, 40, 1, 32);
+    record(&mut bytes, 80, 6, 24);
+    record(&mut bytes, 112, 10, 10);
+    bytes.truncate(161);
+    bytes
+}
+
+#[test]
+fn a_packet_cut_anywhere() {
+    let bytes = three_records();
+    let mut grid = Grid::of(MMWAVE);
+    for end in 0..=bytes.len() {
+        grid.judge(&bytes[..end]);
+    }
+    grid.assert("cut", [2, 0, 160]);
+}
+
+/// Judged whole, and up to the byte that is damaged.
+#[test]
+fn a_packet_with_every_value_of_every_byte() {
+    let mut bytes = three_records();
+    for (by, expected) in [(1, [129, 45, 146]), (128, [129, 45, 146])] {
+        let mut grid = Grid::of(MMWAVE);
+        judge_damages(&mut grid, &mut bytes, by);
+        grid.assert("damaged", expected);
+    }
+    for by in 0..=255 {
+        judge_damages(&mut Grid::of(MMWAVE), &mut bytes, by);
+    }
+}
+
+fn judge_damages(grid: &mut Grid, bytes: &mut [u8], by: u8) {
+    for place in 0..160 {
+        let right = bytes[place];
+        bytes[place] = right.wrapping_add(by);
+        grid.judge(&bytes[..160]);
+        grid.judge(&bytes[..=place]);
+        bytes[place] = right;
+    }
+}
