@@ -1,5 +1,5 @@
 #!/usr/bin/env bash
-# The independent reader's own tests, the comparison of the libraries with it, and the C host's program with its rows
+# The independent reader's own tests, the comparison of the library with it, and the C host's program with its rows
 # on the sample captures.
 set -u
 cd "$(dirname "$0")/.." || exit 2
@@ -13,13 +13,11 @@ if command -v c++ >/dev/null; then
   c++ -Wall -Wextra -Werror -Ihost/include -fsyntax-only "$built/header.cc" || { echo "host: vellanquor.h in C++"; exit 1; }
 fi
 
-for crate in gateway readings fields; do
-  [ -f "$library/lib$crate.a" ] || rt staticlib $crate >target/host.log 2>&1 || { cat target/host.log; exit 1; }
-done
+[ -f "$library/libvellanquor.a" ] || host/archive.sh || exit 1
 export VQ_LIB_DIR=$library
 (cd host/rust && cargo test --release --offline --quiet) || { echo "host: cargo test"; exit 1; }
 
-cc "$built/gateway_demo.o" -L"$library" -lgateway -lreadings -lpthread -ldl -lm -o "$built/gateway_demo" || exit 1
+cc "$built/gateway_demo.o" "$library/libvellanquor.a" -o "$built/gateway_demo" || exit 1
 for listing in captures/*.txt; do
   capture=${listing%.txt}.bin
   case $capture in *mmwave*) dialect=mmwave ;; *) dialect=sirad ;; esac

@@ -1,6 +1,6 @@
 #!/usr/bin/env bash
 # Fuzzes the gateway library against the independent reader with clang's libFuzzer.
-#   host/fuzz/run.sh SECONDS            the libraries in target/staticlib, or where VQ_LIB_DIR says
+#   host/fuzz/run.sh SECONDS            the library in target/staticlib, or where VQ_LIB_DIR says
 #   host/fuzz/run.sh wrong SECONDS      a subject with one wrong answer instead: the run must find it
 # The corpus stays in host/fuzz/target/corpus; an input that shows a difference is kept as host/fuzz/target/crash-*, and
 # `host/fuzz/target/fuzz FILE` runs it again.

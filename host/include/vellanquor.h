@@ -14,8 +14,8 @@
  * writable 32-bit numbers and `output` to `room` writable bytes that lie apart from them; none is a null pointer, also
  * where its size is 0. The functions keep no state and no pointer, so any number of threads may call them at once.
  *
- * C99. The functions are in three archives: libgateway.a has vq_judge and vq_millimetres, libreadings.a vq_open_reading
- * and vq_closed_reading, libfields.a all others. They need nothing of each other; link those that are called, or all.
+ * C99, and C++. All functions are in libvellanquor.a (host/archive.sh builds it), which needs no other library. It is built
+ * for x86-64 Linux only.
  */
 #ifndef VELLANQUOR_H
 #define VELLANQUOR_H
@@ -98,7 +98,7 @@ extern "C" {
  *   kind     of the frame, if whole; else 0
  *   reason   10 to 14 or 20 to 24, if bad; else 0
  *   length   of the frame, if whole; else 0
- * More bytes behind these never change a whole or a bad judgement. The place at the very end waits. In libgateway.a.
+ * More bytes behind these never change a whole or a bad judgement. The place at the very end waits.
  */
 struct vq_judgement {
     uint32_t refusal;
@@ -115,7 +115,6 @@ struct vq_judgement vq_judge(uint32_t dialect, const uint8_t *bytes, size_t coun
  * value, halves away from zero.
  *   refusal  0, or 30, or 31
  *   value    -1000000 to 1000000
- * In libgateway.a.
  */
 struct vq_millimetres {
     uint32_t refusal;
@@ -133,7 +132,6 @@ struct vq_millimetres vq_millimetres(uint32_t bits);
  *   rows     written to the table
  *   skipped  bytes that no row covers, up to `next`
  *   next     the place where the reading stopped: row lengths and skipped bytes add up to it
- * Both readings are in libreadings.a.
  */
 struct vq_reading {
     uint32_t refusal;
@@ -158,7 +156,7 @@ struct vq_reading vq_closed_reading(uint32_t dialect, const uint8_t *bytes, size
                                     size_t numbers);
 
 /*
- * Fields, in libfields.a. A reader takes bytes that are exactly one whole frame or packet, as a row of a reading names
+ * Fields. A reader takes bytes that are exactly one whole frame or packet, as a row of a reading names
  * them. A writer writes to the start of the output and changes the bytes it produced only; it answers their number.
  */
 struct vq_written {

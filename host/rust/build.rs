@@ -1,11 +1,8 @@
-//! Links the static libraries if the environment variable VQ_LIB_DIR names the directory that holds them.
+//! Links the static library if the environment variable VQ_LIB_DIR names the directory that holds it.
 //! Without the variable the package builds and tests alone.
 
 use std::env;
 use std::path::Path;
-
-/// The archives: `libNAME.a`.
-const LIBRARIES: [&str; 3] = ["gateway", "readings", "fields"];
 
 fn main() {
     println!("cargo:rustc-check-cfg=cfg(gateway_linked)");
@@ -15,11 +12,9 @@ fn main() {
         return;
     };
     println!("cargo:rustc-link-search=native={}", Path::new(&directory).display());
-    for library in LIBRARIES {
-        let archive = Path::new(&directory).join(format!("lib{library}.a"));
-        assert!(archive.is_file(), "VQ_LIB_DIR is set, but {} is not there", archive.display());
-        println!("cargo:rerun-if-changed={}", archive.display());
-        println!("cargo:rustc-link-lib=static={library}");
-    }
+    let archive = Path::new(&directory).join("libvellanquor.a");
+    assert!(archive.is_file(), "VQ_LIB_DIR is set, but {} is not there", archive.display());
+    println!("cargo:rerun-if-changed={}", archive.display());
+    println!("cargo:rustc-link-lib=static=vellanquor");
     println!("cargo:rustc-cfg=gateway_linked");
 }

@@ -257,3 +257,8 @@ whole-length k n bs h = go (judged-stands sirad k n bs h)
     go s =
         let e : n ≡ total k (hexAt 4 2 (take n bs)) = sym (length-take-le n bs (s .within)) ∙ frame-length k (take n bs) (s .frame) in
         e ∙ ap (total k) (size-kept n bs (omega (arith, total-least k (hexAt 4 2 (take n bs)))))
+
+-- bytes that are judged whole from first to last are a frame of the table, and only those
+pub whole-by-table : (k : ℕ) (bs : List ℕ) → (judge sirad 0 bs ≡ Whole k (length bs)) ↔ TableFrame k bs
+whole-by-table k bs =
+    (λ h. table-is-form k bs .0 (judged-frame sirad k bs h), λ f. frame-whole sirad k bs (table-is-form k bs .1 f))

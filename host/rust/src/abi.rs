@@ -81,7 +81,7 @@ impl From<Result<reading::Reading, Refusal>> for Reading {
     }
 }
 
-/// What can be compared: the functions of `libgateway.a` and `libreadings.a`.
+/// What can be compared: the judgement, the millimetre rule and both readings.
 pub trait Subject {
     /// `vq_judge`.
     fn judge(&self, dialect: u32, bytes: &[u8], place: usize) -> Judgement;

@@ -1,5 +1,5 @@
-//! The static libraries `libgateway.a`, `libreadings.a` and `libfields.a` behind safe functions. The module is there only
-//! if `VQ_LIB_DIR` names the directory that holds them.
+//! The static library `libvellanquor.a` behind safe functions. The module is there only if `VQ_LIB_DIR` names the directory
+//! that holds it.
 
 #![allow(unsafe_code)]
 

@@ -1,8 +1,8 @@
 //! The library's readers and writers of fields and commands against the reader, and the comparison against readers that are
 //! wrong on purpose.
 //!
-//! The library is compared if `VQ_LIB_DIR` names the directory that holds `libfields.a`. `VQ_SEED` gives another first seed
-//! than the usual one.
+//! The library is compared if `VQ_LIB_DIR` names the directory that holds `libvellanquor.a`. `VQ_SEED` gives another first
+//! seed than the usual one.
 
 use radar_reference::abi::fields::{
     Command, DataFrame, ErrorFrame, FieldSubject, Header, Point, Record, StatusFrame, Step, TargetFrame, Written,

@@ -138,8 +138,8 @@ pub struct Written {
     pub size: u64,
 }
 
-/// What can be compared: the functions of `libfields.a`. A writer is handed a frame or command whose refusal (and, in a
-/// U frame, whose accuracy in millimetres) counts for nothing.
+/// What can be compared: the readers and writers of fields and commands. A writer is handed a frame or command whose refusal
+/// (and, in a U frame, whose accuracy in millimetres) counts for nothing.
 #[allow(missing_docs)]
 pub trait FieldSubject {
     fn header(&self, packet: &[u8]) -> Header;
