@@ -24,8 +24,10 @@ module _ (bs : List ℕ) where
     short : length bs < 4 → Framing 40
     rest : 4 ≤ length bs → (restOf (headerOf bs) ≡ 0 → ⊥) → Framing 41
     empty : 4 ≤ length bs → restOf (headerOf bs) ≡ 0 → lengthOf (headerOf bs) ≡ 0 → Framing 42
-    size : 4 ≤ length bs → restOf (headerOf bs) ≡ 0 → (lengthOf (headerOf bs) ≡ 0 → ⊥) → (length bs ≡ 4 * lengthOf (headerOf bs) → ⊥) → Framing 43
-    framed : 4 ≤ length bs → restOf (headerOf bs) ≡ 0 → (lengthOf (headerOf bs) ≡ 0 → ⊥) → length bs ≡ 4 * lengthOf (headerOf bs) → Framing 0
+    size : 4 ≤ length bs → restOf (headerOf bs) ≡ 0 → (lengthOf (headerOf bs) ≡ 0 → ⊥) → (length bs ≡ 4 * lengthOf (headerOf bs) → ⊥)
+        → Framing 43
+    framed : 4 ≤ length bs → restOf (headerOf bs) ≡ 0 → (lengthOf (headerOf bs) ≡ 0 → ⊥) → length bs ≡ 4 * lengthOf (headerOf bs)
+        → Framing 0
 
   -- 40: under 4 bytes
   pub framing-short : length bs < 4 → _≡_ {A = ℕ} 40 (framing bs)
@@ -43,23 +45,35 @@ module _ (bs : List ℕ) where
   framing-empty l r n = rw (le-ltb (length bs) 4 l, eq-eqb (restOf (headerOf bs)) 0 r, eq-eqb (lengthOf (headerOf bs)) 0 n)
 
   -- 43: byte count not four times the length
-  pub framing-size : 4 ≤ length bs → restOf (headerOf bs) ≡ 0 → (lengthOf (headerOf bs) ≡ 0 → ⊥) → (length bs ≡ 4 * lengthOf (headerOf bs) → ⊥)
+  pub framing-size : 4 ≤ length bs → restOf (headerOf bs) ≡ 0 → (lengthOf (headerOf bs) ≡ 0 → ⊥)
+      → (length bs ≡ 4 * lengthOf (headerOf bs) → ⊥)
       → _≡_ {A = ℕ} 43 (framing bs)
   unfolding framing
   framing-size l r n s =
-      rw (le-ltb (length bs) 4 l, eq-eqb (restOf (headerOf bs)) 0 r, ne-eqb (lengthOf (headerOf bs)) 0 n, ne-eqb (length bs) (4 * lengthOf (headerOf bs)) s)
+      rw (
+        le-ltb (length bs) 4 l,
+        eq-eqb (restOf (headerOf bs)) 0 r,
+        ne-eqb (lengthOf (headerOf bs)) 0 n,
+        ne-eqb (length bs) (4 * lengthOf (headerOf bs)) s,
+      )
 
   -- 0: none of these
   pub framing-fine : 4 ≤ length bs → restOf (headerOf bs) ≡ 0 → (lengthOf (headerOf bs) ≡ 0 → ⊥) → length bs ≡ 4 * lengthOf (headerOf bs)
       → _≡_ {A = ℕ} 0 (framing bs)
   unfolding framing
   framing-fine l r n s =
-      rw (le-ltb (length bs) 4 l, eq-eqb (restOf (headerOf bs)) 0 r, ne-eqb (lengthOf (headerOf bs)) 0 n, eq-eqb (length bs) (4 * lengthOf (headerOf bs)) s)
+      rw (
+        le-ltb (length bs) 4 l,
+        eq-eqb (restOf (headerOf bs)) 0 r,
+        ne-eqb (lengthOf (headerOf bs)) 0 n,
+        eq-eqb (length bs) (4 * lengthOf (headerOf bs)) s,
+      )
 
   -- all bytes have one
   pub framing-view : Framing (framing bs)
   framing-view =
-      go (decLe 4 (length bs)) (ℕ-discrete (restOf (headerOf bs)) 0) (ℕ-discrete (lengthOf (headerOf bs)) 0) (ℕ-discrete (length bs) (4 * lengthOf (headerOf bs)))
+      go (decLe 4 (length bs)) (ℕ-discrete (restOf (headerOf bs)) 0) (ℕ-discrete (lengthOf (headerOf bs)) 0)
+      (ℕ-discrete (length bs) (4 * lengthOf (headerOf bs)))
     where
       go : Dec (4 ≤ length bs) → Dec (restOf (headerOf bs) ≡ 0) → Dec (lengthOf (headerOf bs) ≡ 0)
           → Dec (length bs ≡ 4 * lengthOf (headerOf bs)) → Framing (framing bs)
@@ -89,7 +103,8 @@ module _ (bs : List ℕ) (header rest : ℕ) (there : 4 ≤ length bs) (head : h
     module _ (some : n ≡ 0 → ⊥) where
       -- 43
       pub at-size : (length bs ≡ 4 * n → ⊥) → _≡_ {A = ℕ} 43 (framing bs)
-      at-size s = framing-size bs there (sym rest-is ∙ clear) (λ z. some (length-is ∙ z)) (λ z. s (z ∙ ap (λ (m : ℕ). 4 * m) (sym length-is)))
+      at-size s =
+          framing-size bs there (sym rest-is ∙ clear) (λ z. some (length-is ∙ z)) (λ z. s (z ∙ ap (λ (m : ℕ). 4 * m) (sym length-is)))
 
       -- none
       pub at-fine : length bs ≡ 4 * n → _≡_ {A = ℕ} 0 (framing bs)

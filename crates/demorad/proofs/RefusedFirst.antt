@@ -20,7 +20,8 @@ use Rattle.demorad.specs.Image.{commandBytes}
 use Rattle.demorad.specs.Reading.{bits, restOf, lengthOf, codeOf, headerOf, countOf, payloadOf, framing, readRefusal, readCommand}
 use Rattle.demorad.specs.Refusals.{Absent, Listed, First}
 use Rattle.demorad.specs.Refusals.{Illegal, unknown-code, too-few, too-many, over-thirty, wrong-selection}
-use Rattle.demorad.specs.Refusals.{Unreadable, too-short, rest-bit, no-length, wrong-size, illegal-read, Unwritable, illegal-write, no-room}
+use Rattle.demorad.specs.Refusals.{Unreadable, too-short, rest-bit, no-length, wrong-size, illegal-read}
+use Rattle.demorad.specs.Refusals.{Unwritable, illegal-write, no-room}
 use Rattle.demorad.specs.declared.Rule.{Rule}
 use Rattle.demorad.proofs.RuleLaws.{most-small, known-listed, listed-rule, absent-unknown, unknown-absent, all-known, selected}
 use Rattle.demorad.proofs.RuleLaws.{Verdict, unknown, few, many, out, fine, verdict}
@@ -92,12 +93,21 @@ module _ (code count : ℕ) (words : List ℕ) where
   illegal-to (wrong-selection rule l s h) = omega arith
 
   -- no condition below n holds once the facts that come before n do
-  legal-below : (n : ℕ) → (44 < n → ruleOf code .known ≡ true) → (45 < n → ruleOf code .least ≤ count) → (45 < n → count ≤ ruleOf code .most)
-      → (46 < n → ruleOf code .selects ≡ true → selected (ruleOf code) words ≤ ruleOf code .top) → (m : ℕ) → m < n → Illegal code count words m → ⊥
+  legal-below : (n : ℕ) → (44 < n → ruleOf code .known ≡ true) → (45 < n → ruleOf code .least ≤ count)
+      → (45 < n → count ≤ ruleOf code .most)
+      → (46 < n → ruleOf code .selects ≡ true → selected (ruleOf code) words ≤ ruleOf code .top)
+      → (m : ℕ) → m < n → Illegal code count words m → ⊥
   unfolding ruleOf
-  legal-below n k l u s m h (unknown-code a) = both-ways (lookup code rules .known) (k h) (ap (λ (r : Rule). r .known) (absent-unknown code rules a))
-  legal-below n k l u s m h (too-few rule p q) = let e = ap (λ (r : Rule). r .least) (listed-rule code rule p .0) in let f = l h in omega arith
-  legal-below n k l u s m h (too-many rule p q) = let e = ap (λ (r : Rule). r .most) (listed-rule code rule p .0) in let f = u h in omega arith
+  legal-below n k l u s m h (unknown-code a) =
+      both-ways (lookup code rules .known) (k h) (ap (λ (r : Rule). r .known) (absent-unknown code rules a))
+  legal-below n k l u s m h (too-few rule p q) =
+      let e = ap (λ (r : Rule). r .least) (listed-rule code rule p .0) in
+      let f = l h in
+      omega arith
+  legal-below n k l u s m h (too-many rule p q) =
+      let e = ap (λ (r : Rule). r .most) (listed-rule code rule p .0) in
+      let f = u h in
+      omega arith
   legal-below n k l u s m h (over-thirty q) = let b = most-small code in let f = u h in omega arith
   legal-below n k l u s m h (wrong-selection rule p t q) =
       let e = listed-rule code rule p .0 in
@@ -120,7 +130,8 @@ module _ (code count : ℕ) (words : List ℕ) where
       record {
         none = λ z. absurd (omega arith);
         holds = λ z. unknown-code (unknown-row k);
-        least = legal-below 44 (λ h. absurd (omega arith)) (λ h. absurd (omega arith)) (λ h. absurd (omega arith)) (λ h. absurd (omega arith));
+        least =
+            legal-below 44 (λ h. absurd (omega arith)) (λ h. absurd (omega arith)) (λ h. absurd (omega arith)) (λ h. absurd (omega arith));
       }
   verdict-first (few k l) =
       record {
@@ -172,20 +183,23 @@ module _ (bs : List ℕ) where
   not-yet n l m h i = let f = illegal-from (codeOf (headerOf bs)) (countOf bs) (payloadOf bs) i in omega arith
 
   -- framing first, then legality
-  framing-first : {n : ℕ} → Framing bs n → First (Unreadable bs) (cond (eqb n 0) (legality (codeOf (headerOf bs)) (countOf bs) (payloadOf bs)) n)
+  framing-first : {n : ℕ} → Framing bs n
+      → First (Unreadable bs) (cond (eqb n 0) (legality (codeOf (headerOf bs)) (countOf bs) (payloadOf bs)) n)
   framing-first (short l) =
       record {
         none = λ z. absurd (omega arith);
         holds = λ z. too-short l;
         least =
-            framed-below 40 (λ h. absurd (omega arith)) (λ h. absurd (omega arith)) (λ h. absurd (omega arith)) (λ h. absurd (omega arith)) (not-yet 40 (omega arith));
+            framed-below 40 (λ h. absurd (omega arith)) (λ h. absurd (omega arith)) (λ h. absurd (omega arith)) (λ h. absurd (omega arith))
+            (not-yet 40 (omega arith));
       }
   framing-first (rest l r) =
       record {
         none = λ z. absurd (omega arith);
         holds = λ z. let b = some-rest-bit (headerOf bs) r in rest-bit (b .0) (b .1) (b .2) (b .3);
         least =
-            framed-below 41 (λ h. l) (λ h. absurd (omega arith)) (λ h. absurd (omega arith)) (λ h. absurd (omega arith)) (not-yet 41 (omega arith));
+            framed-below 41 (λ h. l) (λ h. absurd (omega arith)) (λ h. absurd (omega arith)) (λ h. absurd (omega arith))
+            (not-yet 41 (omega arith));
       }
   framing-first (empty l r z) =
       record {
@@ -237,7 +251,8 @@ module _ (rd : Bool) (code count : ℕ) (words out : List ℕ) where
       below f u m h (no-room k) = omega arith
 
   no-output : legality code count words ≡ 0 → length out < length (commandBytes rd code count words) → First Fails 51
-  no-output d l = record { none = λ z. absurd (omega arith); holds = λ z. no-room l; least = below (legality-first code count words .none d) }
+  no-output d l =
+      record { none = λ z. absurd (omega arith); holds = λ z. no-room l; least = below (legality-first code count words .none d) }
     where
       below : ((m : ℕ) → Illegal code count words m → ⊥) → (m : ℕ) → m < 51 → Fails m → ⊥
       below f m h (illegal-write i) = f m i
@@ -245,7 +260,11 @@ module _ (rd : Bool) (code count : ℕ) (words out : List ℕ) where
 
   nothing-fails : legality code count words ≡ 0 → length (commandBytes rd code count words) ≤ length out → First Fails 0
   nothing-fails d l =
-      record { none = λ z. never (legality-first code count words .none d); holds = λ z. absurd (z refl); least = λ m h. absurd (omega arith) }
+      record {
+        none = λ z. never (legality-first code count words .none d);
+        holds = λ z. absurd (z refl);
+        least = λ m h. absurd (omega arith);
+      }
     where
       never : ((m : ℕ) → Illegal code count words m → ⊥) → (m : ℕ) → Fails m → ⊥
       never f m (illegal-write i) = f m i
@@ -254,15 +273,18 @@ module _ (rd : Bool) (code count : ℕ) (words out : List ℕ) where
   answer-first : First Fails (answer .refusal)
   answer-first = go (ℕ-discrete (legality code count words) 0) (decLe (length (commandBytes rd code count words)) (length out))
     where
-      go : Dec (legality code count words ≡ 0) → Dec (length (commandBytes rd code count words) ≤ length out) → First Fails (answer .refusal)
+      go : Dec (legality code count words ≡ 0) → Dec (length (commandBytes rd code count words) ≤ length out)
+          → First Fails (answer .refusal)
       go (no d) l = rw (ne-eqb (legality code count words) 0 d) (refused-values d)
       go (yes d) (yes l) =
           rw (eq-eqb (legality code count words) 0 d, le-leb (length (commandBytes rd code count words)) (length out) l) (nothing-fails d l)
       go (yes d) (no l) =
-          rw (eq-eqb (legality code count words) 0 d, lt-leb (length (commandBytes rd code count words)) (length out) (omega arith)) (no-output d (omega arith))
+          rw (eq-eqb (legality code count words) 0 d, lt-leb (length (commandBytes rd code count words)) (length out) (omega arith))
+          (no-output d (omega arith))
 
   -- a command is refused for writing with the first of 44, 45, 46, 51 whose condition holds, and with 0 exactly if none holds
-  pub write-refused-first : (r : Written) (after : List ℕ) → Writes (legality code count words) (commandBytes rd code count words) out r after
+  pub write-refused-first : (r : Written) (after : List ℕ)
+      → Writes (legality code count words) (commandBytes rd code count words) out r after
       → First (Unwritable rd code count words out) (r .refusal)
   write-refused-first r after w = subst (λ (a : Written). First Fails (a .refusal)) (sym (w .answers)) answer-first
 

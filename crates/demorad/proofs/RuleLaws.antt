@@ -38,20 +38,26 @@ every P code (row ∷ rows) u (h, hs) = chosen P (eqb code (row .0)) (row .1) (l
 pub index-small : (code : ℕ) → ruleOf code .index < 2
 unfolding ruleOf Every
 index-small code =
-    every (λ r. r .index < 2) code rules (omega arith) (omega arith, (omega arith, (omega arith, (omega arith, (omega arith, (omega arith, (omega arith, tt)))))))
+    every (λ r. r .index < 2) code rules (omega arith)
+    (omega arith, (omega arith, (omega arith, (omega arith, (omega arith, (omega arith, (omega arith, tt)))))))
+
+-- a rule that does not select has no selection
+unselected : {A : Type 0} → false ≡ true → A
+unselected s = both-ways false s refl
 
 -- a selection is among the fewest words of its code
 pub index-counted : (code : ℕ) → ruleOf code .selects ≡ true → ruleOf code .index < ruleOf code .least
 unfolding ruleOf Every
 index-counted code =
-    every (λ r. r .selects ≡ true → r .index < r .least) code rules (λ s. both-ways false s refl)
-    (λ s. both-ways false s refl, (λ s. omega arith, (λ s. omega arith, (λ s. both-ways false s refl, (λ s. both-ways false s refl, (λ s. both-ways false s refl, (λ s. omega arith, tt)))))))
+    every (λ r. r .selects ≡ true → r .index < r .least) code rules unselected
+    (unselected, (λ s. omega arith, (λ s. omega arith, (unselected, (unselected, (unselected, (λ s. omega arith, tt)))))))
 
 -- no code has more than 30 payload words
 pub most-small : (code : ℕ) → ruleOf code .most ≤ 30
 unfolding ruleOf Every
 most-small code =
-    every (λ r. r .most ≤ 30) code rules (omega arith) (omega arith, (omega arith, (omega arith, (omega arith, (omega arith, (omega arith, (omega arith, tt)))))))
+    every (λ r. r .most ≤ 30) code rules (omega arith)
+    (omega arith, (omega arith, (omega arith, (omega arith, (omega arith, (omega arith, (omega arith, tt)))))))
 
 -- a known code has its row
 pub known-listed : (code : ℕ) (rows : List (ℕ × Rule)) → lookup code rows .known ≡ true → Listed code (lookup code rows) rows
@@ -84,7 +90,8 @@ absent-unknown code [] h = refl
 absent-unknown code (row ∷ rows) (h, hs) = rw (ne-eqb code (row .0) h) (absent-unknown code rows hs)
 
 -- an unknown code is in no row
-pub unknown-absent : (code : ℕ) (rows : List (ℕ × Rule)) → Every (λ c r. r .known ≡ true) rows → lookup code rows .known ≡ false → Absent code rows
+pub unknown-absent : (code : ℕ) (rows : List (ℕ × Rule)) → Every (λ c r. r .known ≡ true) rows → lookup code rows .known ≡ false
+    → Absent code rows
 unfolding Absent Every
 unknown-absent code [] k h = tt
 unknown-absent code (row ∷ rows) (k, ks) h = go (eqb code (row .0)) refl h (λ u. unknown-absent code rows ks u)
@@ -116,8 +123,10 @@ module _ (rule : Rule) (count : ℕ) (words : List ℕ) where
     unknown : rule .known ≡ false → Verdict 44
     few : rule .known ≡ true → count < rule .least → Verdict 45
     many : rule .known ≡ true → rule .most < count → Verdict 45
-    out : rule .known ≡ true → rule .least ≤ count → count ≤ rule .most → rule .selects ≡ true → rule .top < selected rule words → Verdict 46
-    fine : rule .known ≡ true → rule .least ≤ count → count ≤ rule .most → (rule .selects ≡ true → selected rule words ≤ rule .top) → Verdict 0
+    out : rule .known ≡ true → rule .least ≤ count → count ≤ rule .most → rule .selects ≡ true → rule .top < selected rule words
+        → Verdict 46
+    fine : rule .known ≡ true → rule .least ≤ count → count ≤ rule .most → (rule .selects ≡ true → selected rule words ≤ rule .top)
+        → Verdict 0
 
   -- 44: an unknown code
   pub judged-unknown : rule .known ≡ false → _≡_ {A = ℕ} 44 (judged rule count words)
@@ -136,7 +145,8 @@ module _ (rule : Rule) (count : ℕ) (words : List ℕ) where
       go (no l) = rw (k, lt-leb (rule .least) count (omega arith))
 
   -- 0: the count fits and there is no selection
-  pub judged-free : rule .known ≡ true → rule .least ≤ count → count ≤ rule .most → rule .selects ≡ false → _≡_ {A = ℕ} 0 (judged rule count words)
+  pub judged-free : rule .known ≡ true → rule .least ≤ count → count ≤ rule .most → rule .selects ≡ false
+      → _≡_ {A = ℕ} 0 (judged rule count words)
   judged-free k l m s = rw (k, le-leb (rule .least) count l, le-leb count (rule .most) m, s)
 
   -- 46: the selection is above its highest value

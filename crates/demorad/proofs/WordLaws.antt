@@ -52,7 +52,8 @@ pub words-below : (n : ℕ) (bs : List ℕ) → Bytes bs → Below (2 ^ 32) (wor
 unfolding wordsOf Below
 words-below zero bs h = tt
 words-below (suc n) bs h = (
-  let r = little-below (take 4 bs) (below-take (2 ^ 8) 4 bs h) in lt-of-lt-of-le r (pow-le-pow-right {n = 256} (omega arith) {j = 4} (simp length-take (omega arith))),
+  let r = little-below (take 4 bs) (below-take (2 ^ 8) 4 bs h) in
+      lt-of-lt-of-le r (pow-le-pow-right {n = 256} (omega arith) {j = 4} (simp length-take (omega arith))),
   words-below n (drop 4 bs) (below-drop (2 ^ 8) 4 bs h),
 )
 

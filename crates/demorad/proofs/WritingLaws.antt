@@ -37,8 +37,10 @@ put-turns n i at words out out′ all h k l e inv =
     let t = length-take-le n words k in
     let d : drop i (take n words) ≡ getD words i 0 ∷ drop (i + 1) (take n words) =
     drop-one (take n words) i (omega arith) ∙ rw (getD-take n words i 0 h) in
-    let s : stored out at (wordBytes (drop i (take n words))) ≡ stored (stored out at (toLittle 4 (getD words i 0))) (at + 4) (wordBytes (drop (i + 1) (take n words))) =
-    rw (d, stored-append out at (toLittle 4 (getD words i 0)) (wordBytes (drop (i + 1) (take n words))), length-little 4 (getD words i 0)) in
+    let w = getD words i 0 in
+    let later = wordBytes (drop (i + 1) (take n words)) in
+    let s : stored out at (wordBytes (drop i (take n words))) ≡ stored (stored out at (toLittle 4 w)) (at + 4) later =
+    rw (d, stored-append out at (toLittle 4 w) later, length-little 4 w) in
     rw (e, word-fits out at (getD words i 0) l) (sym s ∙ inv)
 
 -- the end
@@ -60,7 +62,8 @@ length-command rd code count words h =
 
 -- the header, then the payload behind it, is the command
 pub put-command : (rd : Bool) (code count header : ℕ) (words out out′ out″ : List ℕ) → 4 ≤ length out → header ≡ headerWord rd code count
-    → out′ ≡ wordStored out 0 header → out″ ≡ stored out′ 4 (wordBytes (take count words)) → out″ ≡ stored out 0 (commandBytes rd code count words)
+    → out′ ≡ wordStored out 0 header → out″ ≡ stored out′ 4 (wordBytes (take count words))
+    → out″ ≡ stored out 0 (commandBytes rd code count words)
 unfolding commandBytes wordBytes
 put-command rd code count header words out out′ out″ l e p q =
     then out out′ out″ 0 4 (toLittle 4 (headerWord rd code count)) (wordBytes (take count words))

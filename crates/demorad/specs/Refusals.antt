@@ -30,7 +30,8 @@ pub data Illegal (code count : ℕ) (words : List ℕ) : ℕ → Type 0 where
   -- payload count over 30
   over-thirty : maxPayload < count → Illegal code count words 45
   -- selection out of range
-  wrong-selection : (rule : Rule) → Listed code rule rules → rule .selects ≡ true → rule .top < getD words (rule .index) 0 → Illegal code count words 46
+  wrong-selection : (rule : Rule) → Listed code rule rules → rule .selects ≡ true → rule .top < getD words (rule .index) 0
+      → Illegal code count words 46
 
 -- when bytes are no command, with the number (paper 01, "Refusal numbers")
 pub data Unreadable (bs : List ℕ) : ℕ → Type 0 where

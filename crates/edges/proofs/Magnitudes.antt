@@ -24,36 +24,47 @@ itself-natural : (z : ℤ) → SFits w32 z → ltZ z (pos 0) ≡ false → T (no
 itself-natural (pos n) r t = (tt, record { fits = omega arith })
 itself-natural (negsuc n) r t = let z : _≡_ {A = ℕ} 0 1 = cc in absurd (omega arith)
 
+-- a number as 32 bits hold it, and as 64 do
+abbrev of-32 : ℤ → ℤ
+of-32 z = toZ w32 (ofZ w32 z)
+
+abbrev of-64 : ℤ → ℤ
+of-64 z = toZ w64 (ofZ w64 z)
+
+-- a natural number of 64 bits
+abbrev Natural : ℤ → Type 0
+Natural z = T (nonNeg z) × Fits w64 (natAbs z)
+
 module _ (z : ℤ) (r : SFits w32 z) where
-  held : toZ w32 (ofZ w32 z) ≡ z
+  held : of-32 z ≡ z
   held = toZ-ofZ {w = w32} {z = z} r
 
-  held-wide : toZ w64 (ofZ w64 (toZ w32 (ofZ w32 z))) ≡ z
-  held-wide = ap (λ (y : ℤ). toZ w64 (ofZ w64 y)) held ∙ toZ-ofZ {w = w64} {z = z} (sfits-widen {w = w32} {w′ = w64} {z = z} tt r)
+  held-wide : of-64 (of-32 z) ≡ z
+  held-wide = ap of-64 held ∙ toZ-ofZ {w = w64} {z = z} (sfits-widen {w = w32} {w′ = w64} {z = z} tt r)
 
   -- the number fits 64 bits
-  pub widens : SFits w64 (toZ w32 (ofZ w32 z))
-  widens = subst (λ (y : ℤ). SFits w64 y) (sym held) (sfits-widen {w = w32} {w′ = w64} {z = z} tt r)
+  pub widens : SFits w64 (of-32 z)
+  widens = subst (SFits w64) (sym held) (sfits-widen {w = w32} {w′ = w64} {z = z} tt r)
 
-  negated : pos 0 -ℤ toZ w64 (ofZ w64 (toZ w32 (ofZ w32 z))) ≡ negℤ z
+  negated : pos 0 -ℤ of-64 (of-32 z) ≡ negℤ z
   negated = ap (λ (y : ℤ). pos 0 -ℤ y) held-wide ∙ +ℤ-idl (negℤ z)
 
   -- so does its opposite
-  pub opposite-widens : SFits w64 (pos 0 -ℤ toZ w64 (ofZ w64 (toZ w32 (ofZ w32 z))))
-  opposite-widens = subst (λ (y : ℤ). SFits w64 y) (sym negated) (opposite-fits z r)
+  pub opposite-widens : SFits w64 (pos 0 -ℤ of-64 (of-32 z))
+  opposite-widens = subst (SFits w64) (sym negated) (opposite-fits z r)
 
   -- the opposite of a negative number is a natural one
-  pub below-zero : ltZ (toZ w32 (ofZ w32 z)) (pos 0) ≡ true → T (nonNeg (toZ w64 (ofZ w64 (pos 0 -ℤ toZ w64 (ofZ w64 (toZ w32 (ofZ w32 z))))))) × Fits w64 (natAbs (toZ w64 (ofZ w64 (pos 0 -ℤ toZ w64 (ofZ w64 (toZ w32 (ofZ w32 z)))))))
+  pub below-zero : ltZ (of-32 z) (pos 0) ≡ true → Natural (of-64 (pos 0 -ℤ of-64 (of-32 z)))
   below-zero t =
       subst
-      (λ (y : ℤ). T (nonNeg y) × Fits w64 (natAbs y))
-      (sym (ap (λ (y : ℤ). toZ w64 (ofZ w64 y)) negated ∙ toZ-ofZ {w = w64} {z = negℤ z} (opposite-fits z r)))
+      Natural
+      (sym (ap of-64 negated ∙ toZ-ofZ {w = w64} {z = negℤ z} (opposite-fits z r)))
       (opposite-natural z r (ap (λ (y : ℤ). ltZ y (pos 0)) (sym held) ∙ t))
 
   -- one that is not negative is natural itself
-  pub from-zero : ltZ (toZ w32 (ofZ w32 z)) (pos 0) ≡ false → T (nonNeg (toZ w64 (ofZ w64 (toZ w32 (ofZ w32 z))))) × Fits w64 (natAbs (toZ w64 (ofZ w64 (toZ w32 (ofZ w32 z)))))
+  pub from-zero : ltZ (of-32 z) (pos 0) ≡ false → Natural (of-64 (of-32 z))
   from-zero t =
       subst
-      (λ (y : ℤ). T (nonNeg y) × Fits w64 (natAbs y))
+      Natural
       (sym held-wide)
       (itself-natural z r (ap (λ (y : ℤ). ltZ y (pos 0)) (sym held) ∙ t))

@@ -2,7 +2,8 @@
 -- 2 ^ -12 m has the bits 39800000, 1000 m has 447A0000 (a significand of 16384000 at scale 136), infinity has 7F800000.
 use mathlib.Core.Path.{_≡_, sym, _∙_}
 use Prim.Native.Nat.{ℕ, _+_, _*_, _/_, _%_, _^_, _<_, _≤_}
-use native.Mathlib.Nat.{mul-le-mul, mul-lt-mul-of-pos-right, mul-le-mul-left, mul-le-mul-right, le-trans, le-of-lt, lt-of-lt-of-le, lt-of-le-of-lt, mod-lt}
+use native.Mathlib.Nat.{mul-le-mul, mul-lt-mul-of-pos-right, mul-le-mul-left, mul-le-mul-right, le-trans, le-of-lt, lt-of-lt-of-le}
+use native.Mathlib.Nat.{lt-of-le-of-lt, mod-lt}
 use native.Mathlib.Omega.{arith}
 use lib.Dec.{leb, ltb, eqb, lit<, lit≤}
 use lib.Pow.{pow-mono}
@@ -45,7 +46,8 @@ module _ (bits : ℕ) where
       rw (normal (omega arith))
       (test
       (ltb 136 (exponent bits))
-      (λ t. lt-of-lt-of-le (lit< {n = 2 ^ 23 * 2 ^ 137} tt) (mul-le-mul {n₁ = 2 ^ 23} {m₁ = 2 ^ 137} (omega arith) (pow-mono {i = 137} {j = exponent bits} (ltb-true 136 (exponent bits) t))))
+      (λ t. lt-of-lt-of-le (lit< {n = 2 ^ 23 * 2 ^ 137} tt) (mul-le-mul {n₁ = 2 ^ 23} {m₁ = 2 ^ 137} (omega arith)
+      (pow-mono {i = 137} {j = exponent bits} (ltb-true 136 (exponent bits) t))))
       (λ t.
       let e : exponent bits ≡ 136 = omega (arith, ltb-false 136 (exponent bits) t) in
       let f : 16384000 < 2 ^ 23 + fraction bits = omega (arith, e) in

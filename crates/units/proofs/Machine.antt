@@ -2,7 +2,9 @@
 use mathlib.Core.Bool.{Bool, true, false, cond}
 use mathlib.Core.Path.{_≡_, refl, sym, _∙_, ap}
 use Prim.Native.Nat.{ℕ, zero, suc, _+_, _-_, _*_, _/_, _%_, _^_, _<_, _≤_}
-use native.Mathlib.Nat.{mul-comm, mul-assoc, mul-add, add-mul, suc-mul, mul-left-comm, mul-le-mul-left, pow-succ', add-div-right, div-div-eq-div-mul, mul-div-mul-left, mul-div-mul-right, div-le-self, div-eq-of-lt, div-lt-iff-lt-mul, lt-of-lt-of-le, sub-add-cancel}
+use native.Mathlib.Nat.{mul-comm, mul-assoc, mul-add, add-mul, suc-mul, mul-left-comm, mul-le-mul-left, pow-succ', add-div-right}
+use native.Mathlib.Nat.{div-div-eq-div-mul, mul-div-mul-left, mul-div-mul-right, div-le-self, div-eq-of-lt, div-lt-iff-lt-mul}
+use native.Mathlib.Nat.{lt-of-lt-of-le, sub-add-cancel}
 use native.Mathlib.Omega.{arith}
 use lib.Dec.{leb, ltb, lit<}
 use lib.Pow.{pow-add, pow-pos}
@@ -79,7 +81,8 @@ pub minus-fits : (q : ℕ) → q ≤ 1000000 → SFits w32 (pos 0 -ℤ toZ w32 q
 minus-fits q h = rw (minus q h) (small-neg q h)
 
 -- the code's number of a negative sign
-pub made-negative : (sign : Bool) (q : ℕ) → q ≤ 1000000 → sign ≡ true → value (toZ w32 (ofZ w32 (pos 0 -ℤ toZ w32 q))) ≡ value (signed sign q)
+pub made-negative : (sign : Bool) (q : ℕ) → q ≤ 1000000 → sign ≡ true
+    → value (toZ w32 (ofZ w32 (pos 0 -ℤ toZ w32 q))) ≡ value (signed sign q)
 made-negative sign q h t = rw (t, minus q h) (ap value (toZ-ofZ {w = w32} {z = negℤ (pos q)} (small-neg q h)))
 
 -- the code's number of a positive sign
@@ -111,7 +114,8 @@ unfolding decibels
 decibels-refused c t = simp t
 
 -- the phase of a character
-pub centidegrees-value : (c a q : ℕ) → isCharacter c ≡ true → a ≡ distance c 144 → q ≡ nearest (1800 * a) 11 → value (signed (ltb c 144) q) ≡ centidegrees c
+pub centidegrees-value : (c a q : ℕ) → isCharacter c ≡ true → a ≡ distance c 144 → q ≡ nearest (1800 * a) 11
+    → value (signed (ltb c 144) q) ≡ centidegrees c
 unfolding centidegrees
 centidegrees-value c a q t e f = simp (t, f, e)
 
@@ -146,7 +150,8 @@ infinite-far a b limit infinite u less h =
     (λ t. rw t (omega arith))
 
 -- the number without a branch
-pub number-is : (u : ℕ) → 31 * boolByte (ltb 0x447A0000 u) - 1 * boolByte (leb 0x7F800000 u) ≡ cond (ltb 0x447A0000 u) (cond (leb 0x7F800000 u) 30 31) 0
+pub number-is : (u : ℕ)
+    → 31 * boolByte (ltb 0x447A0000 u) - 1 * boolByte (leb 0x7F800000 u) ≡ cond (ltb 0x447A0000 u) (cond (leb 0x7F800000 u) 30 31) 0
 number-is u = go (ltb 0x447A0000 u) (leb 0x7F800000 u)
   where
     go : (far infinite : Bool) → 31 * boolByte far - 1 * boolByte infinite ≡ cond far (cond infinite 30 31) 0
@@ -162,7 +167,10 @@ signed-zero false = refl
 -- -- Millimetres: `over` is what the bits without the sign are over those of 2 ^ -12 m, wrapped
 
 -- outside 2 ^ -12 m to 1000 m
-pub millimetres-outside : (bits over number : ℕ) → over < 2 ^ 32 → (over + 0x39800000) % 2 ^ 32 ≡ bits % 2 ^ 31 → 0x447A0000 - 0x39800000 < over → number ≡ cond (ltb 0x447A0000 (bits % 2 ^ 31)) (cond (leb 0x7F800000 (bits % 2 ^ 31)) 30 31) 0 → refused number ≡ millimetres bits
+pub millimetres-outside : (bits over number : ℕ) → over < 2 ^ 32 → (over + 0x39800000) % 2 ^ 32 ≡ bits % 2 ^ 31
+    → 0x447A0000 - 0x39800000 < over
+    → number ≡ cond (ltb 0x447A0000 (bits % 2 ^ 31)) (cond (leb 0x7F800000 (bits % 2 ^ 31)) 30 31) 0
+    → refused number ≡ millimetres bits
 unfolding millimetres
 millimetres-outside bits over number fits wraps outside e =
     rw (e, infinite-bits bits, limit-bits bits)
@@ -188,7 +196,8 @@ module _ (bits over : ℕ) (wraps : (over + 0x39800000) % 2 ^ 32 ≡ bits % 2 ^ 
     -- the shift rounds the exact value
     whole-is : q ≡ nearest (1000 * magnitude bits) (2 ^ 150)
     whole-is =
-        e ∙ rw (shift-is, ← fraction-is bits, normal bits (omega arith)) (shift-exact (2 ^ 23 + fraction bits) (exponent bits) (omega arith))
+        e ∙ rw (shift-is, ← fraction-is bits, normal bits (omega arith))
+        (shift-exact (2 ^ 23 + fraction bits) (exponent bits) (omega arith))
 
     -- at most 1000 m is at most a million millimetres
     pub whole-small : q ≤ 1000000
@@ -200,4 +209,10 @@ module _ (bits over : ℕ) (wraps : (over + 0x39800000) % 2 ^ 32 ≡ bits % 2 ^ 
     pub millimetres-within : value (signed (negative bits) q) ≡ millimetres bits
     unfolding millimetres
     millimetres-within =
-        rw (whole-is, infinite-bits bits, limit-bits bits, lt-leb 0x7F800000 (bits % 2 ^ 31) (omega (arith, most)), le-ltb 0x447A0000 (bits % 2 ^ 31) most) refl
+        rw (
+          whole-is,
+          infinite-bits bits,
+          limit-bits bits,
+          lt-leb 0x7F800000 (bits % 2 ^ 31) (omega (arith, most)),
+          le-ltb 0x447A0000 (bits % 2 ^ 31) most,
+        ) refl

@@ -4,7 +4,8 @@ use Prim.Native.Nat.{ℕ}
 use native.Mathlib.Omega.{arith}
 use borrow.Author.Tests.{not-true, not-false}
 use Rattle.demorad.specs.declared.Rule.{Rule}
-use Rattle.demorad.proofs.RuleLaws.{by-rule, index-small, judged-unknown, judged-few, judged-many, judged-free, judged-out, judged-in}
+use Rattle.demorad.proofs.RuleLaws.{by-rule, index-small, judged-unknown, judged-few, judged-many}
+use Rattle.demorad.proofs.RuleLaws.{judged-free, judged-out, judged-in}
 use borrow.Author.Needs.{needs}
 use Rattle.demorad.proofs.command_refusal.Statement.{statement}
 use Rattle.demorad.proofs.command_refusal.Tie as tie
@@ -36,9 +37,10 @@ returns-3 : tie.Need-returns-3
 returns-3 c =
     let r = c .before .before .before .before .before in
     let a = r .before .args in
-    let known = r .rule-of in (
+    let known = r .rule-of in
+    let listed = not-false _ (c .before .before .before .before .if1 .left) in (
       by-rule (a .code) (a .count) (a .t3) (known .result) 45 (known .ensures)
-          (judged-many (known .result) (a .count) (a .t3) (not-false _ (c .before .before .before .before .if1 .left)) (c .if3 .taken)),
+          (judged-many (known .result) (a .count) (a .t3) listed (c .if3 .taken)),
       search needs,
     )
 
@@ -46,9 +48,11 @@ returns-4 : tie.Need-returns-4
 returns-4 c =
     let r = c .before .before .before .before .before .before in
     let a = r .before .args in
-    let known = r .rule-of in (
+    let known = r .rule-of in
+    let listed = not-false _ (c .before .before .before .before .before .if1 .left) in
+    let free = not-true _ (c .if4 .taken) in (
       by-rule (a .code) (a .count) (a .t3) (known .result) 0 (known .ensures)
-          (judged-free (known .result) (a .count) (a .t3) (not-false _ (c .before .before .before .before .before .if1 .left)) (omega arith) (omega arith) (not-true _ (c .if4 .taken))),
+          (judged-free (known .result) (a .count) (a .t3) listed (omega arith) (omega arith) free),
       search needs,
     )
 
@@ -70,9 +74,11 @@ returns-5 : tie.Need-returns-5
 returns-5 c =
     let r = c .before .before .before .before .before .before .before .before in
     let a = r .before .args in
-    let known = r .rule-of in (
+    let known = r .rule-of in
+    let listed = not-false _ (c .before .before .before .before .before .before .before .if1 .left) in
+    let selects = not-false _ (c .before .before .if4 .left) in (
       by-rule (a .code) (a .count) (a .t3) (known .result) 46 (known .ensures)
-          (judged-out (known .result) (a .count) (a .t3) (not-false _ (c .before .before .before .before .before .before .before .if1 .left)) (omega arith) (omega arith) (not-false _ (c .before .before .if4 .left)) (c .if5 .taken)),
+          (judged-out (known .result) (a .count) (a .t3) listed (omega arith) (omega arith) selects (c .if5 .taken)),
       search needs,
     )
 
@@ -80,9 +86,11 @@ returns-6 : tie.Need-returns-6
 returns-6 c =
     let r = c .before .before .before .before .before .before .before .before in
     let a = r .before .args in
-    let known = r .rule-of in (
+    let known = r .rule-of in
+    let listed = not-false _ (c .before .before .before .before .before .before .before .if1 .left) in
+    let selects = not-false _ (c .before .before .if4 .left) in (
       by-rule (a .code) (a .count) (a .t3) (known .result) 0 (known .ensures)
-          (judged-in (known .result) (a .count) (a .t3) (not-false _ (c .before .before .before .before .before .before .before .if1 .left)) (omega arith) (omega arith) (not-false _ (c .before .before .if4 .left)) (omega arith)),
+          (judged-in (known .result) (a .count) (a .t3) listed (omega arith) (omega arith) selects (omega arith)),
       search needs,
     )
 

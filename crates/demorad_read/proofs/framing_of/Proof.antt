@@ -17,7 +17,8 @@ rest-of-requires c κs = search needs
 returns-2 : tie.Need-returns-2
 returns-2 c =
     let w = c .before .before in
-    at-rest (w .before .before .before .args .bytes .now) _ _ (omega arith) (w .word-at .ensures) (c .before .rest-of .ensures) (c .if2 .taken)
+    let bs = w .before .before .before .args .bytes .now in
+    at-rest bs _ _ (omega arith) (w .word-at .ensures) (c .before .rest-of .ensures) (c .if2 .taken)
 
 length-of-requires : tie.Need-length-of-requires
 length-of-requires c κs = search needs
@@ -27,8 +28,9 @@ returns-3 c =
     let n = c .before in
     let r = n .before .before in
     let w = r .before in
-    at-empty (w .before .before .before .args .bytes .now) _ _ (omega arith) (w .word-at .ensures) (r .rest-of .ensures) (n .before .if2 .left) _
-    (n .length-of .ensures) (c .if3 .taken)
+    let bs = w .before .before .before .args .bytes .now in
+    at-empty bs _ _ (omega arith) (w .word-at .ensures) (r .rest-of .ensures) (n .before .if2 .left) _ (n .length-of .ensures)
+    (c .if3 .taken)
 
 cast-size : tie.Need-cast-size
 cast-size c = search needs
@@ -41,16 +43,18 @@ returns-4 c =
     let n = c .before .before in
     let r = n .before .before in
     let w = r .before in
-    at-size (w .before .before .before .args .bytes .now) _ _ (omega arith) (w .word-at .ensures) (r .rest-of .ensures) (n .before .if2 .left) _
-    (n .length-of .ensures) (c .before .if3 .left) (c .if4 .taken)
+    let bs = w .before .before .before .args .bytes .now in
+    at-size bs _ _ (omega arith) (w .word-at .ensures) (r .rest-of .ensures) (n .before .if2 .left) _ (n .length-of .ensures)
+    (c .before .if3 .left) (c .if4 .taken)
 
 returns-5 : tie.Need-returns-5
 returns-5 c =
     let n = c .before .before in
     let r = n .before .before in
     let w = r .before in
-    at-fine (w .before .before .before .args .bytes .now) _ _ (omega arith) (w .word-at .ensures) (r .rest-of .ensures) (n .before .if2 .left) _
-    (n .length-of .ensures) (c .before .if3 .left) (c .if4 .left)
+    let bs = w .before .before .before .args .bytes .now in
+    at-fine bs _ _ (omega arith) (w .word-at .ensures) (r .rest-of .ensures) (n .before .if2 .left) _ (n .length-of .ensures)
+    (c .before .if3 .left) (c .if4 .left)
 
 pub framing-of-spec : {M : Type 1} → statement M
 framing-of-spec =

@@ -44,7 +44,8 @@ loop-again c =
     let a = c .before .before .before .before .before .before .before .args in
     let l = c .before .before .before .before .before .loop in
     let p = c .before .before .put-word in
-    let same : length (p .last .0) ≡ length (l .out) = ap length (p .ensures) ∙ length-word-stored (l .out) (l .at) (getD (a .t3) (l .i) 0) in (
+    let same : length (p .last .0) ≡ length (l .out) =
+    ap length (p .ensures) ∙ length-word-stored (l .out) (l .at) (getD (a .t3) (l .i) 0) in (
       omega arith,
       omega arith,
       omega arith,

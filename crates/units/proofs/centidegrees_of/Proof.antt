@@ -19,10 +19,15 @@ rounded-requires : tie.Need-rounded-requires
 rounded-requires c κs = search needs
 
 signed-quantity-requires : tie.Need-signed-quantity-requires
-signed-quantity-requires c κs = centidegrees-small (c .before .before .before .before .args .character) _ _ (omega arith) (c .before .apart .ensures) (c .rounded .ensures)
+signed-quantity-requires c κs =
+    let character = c .before .before .before .before .args .character in
+    centidegrees-small character _ _ (omega arith) (c .before .apart .ensures) (c .rounded .ensures)
 
 returns : tie.Need-returns
-returns c = c .signed-quantity .ensures ∙ centidegrees-value _ _ _ (sym (c .before .before .before .before .is-character .ensures) ∙ c .before .before .before .if1 .taken) (c .before .before .apart .ensures) (c .before .rounded .ensures)
+returns c =
+    let w = c .before .before in
+    let is = sym (w .before .before .is-character .ensures) ∙ w .before .if1 .taken in
+    c .signed-quantity .ensures ∙ centidegrees-value _ _ _ is (w .apart .ensures) (c .before .rounded .ensures)
 
 refusal-of-requires : tie.Need-refusal-of-requires
 refusal-of-requires c κs = search needs

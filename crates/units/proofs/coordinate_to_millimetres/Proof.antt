@@ -23,9 +23,9 @@ refusal-of-requires c κs = search needs
 returns : tie.Need-returns
 returns c =
     let at-number = c .before in
-    let at-over = at-number .before .before in
-    c .refusal-of .ensures
-    ∙ millimetres-outside _ _ _ (at-over .wrapping-sub-u32 .ok) (at-over .wrapping-sub-u32 .ensures) (at-number .before .if1 .taken) (at-number .refusal-number .ensures)
+    let over = at-number .before .before .wrapping-sub-u32 in
+    let number = at-number .refusal-number .ensures in
+    c .refusal-of .ensures ∙ millimetres-outside _ _ _ (over .ok) (over .ensures) (at-number .before .if1 .taken) number
 
 add-m : tie.Need-add-m
 add-m c = search needs

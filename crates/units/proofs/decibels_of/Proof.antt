@@ -15,7 +15,10 @@ signed-quantity-requires : tie.Need-signed-quantity-requires
 signed-quantity-requires c κs = search needs
 
 returns : tie.Need-returns
-returns c = c .signed-quantity .ensures ∙ decibels-value _ _ (sym (c .before .before .before .is-character .ensures) ∙ c .before .before .if1 .taken) (c .before .apart .ensures)
+returns c =
+    let w = c .before in
+    let is = sym (w .before .before .is-character .ensures) ∙ w .before .if1 .taken in
+    c .signed-quantity .ensures ∙ decibels-value _ _ is (w .apart .ensures)
 
 refusal-of-requires : tie.Need-refusal-of-requires
 refusal-of-requires c κs = search needs
