@@ -1,5 +1,5 @@
-// The C face of fields and commands: the readers and writers of `sirad_fields`, `packet` and `demorad` under names for C, each with its own
-// promise. A slice is a pointer that is not null and a count; a struct crosses by value.
+// The C face of fields and commands: the readers and writers of SiRad frames, `packet` and `demorad` under names for C, each with its
+// own promise. A slice is a pointer that is not null and a count; a struct crosses by value.
 
 use digits::Written;
 use packet::Cursor;
@@ -55,7 +55,7 @@ pub struct CommandNumbers {
 pub extern "C" fn vq_read_data(frame: &[u8]) -> DataFrame
     ensures { λ r. ⌜ r ≡ readData (now (frame .entry)) ⌝ }
 {
-    sirad_fields::read_data(frame)
+    sirad_read::read_data(frame)
 }
 
 // The sixteen targets of exactly one whole T frame; else 5.
@@ -63,7 +63,7 @@ pub extern "C" fn vq_read_data(frame: &[u8]) -> DataFrame
 pub extern "C" fn vq_read_targets(frame: &[u8]) -> TargetFrame
     ensures { λ r. ⌜ r ≡ readTargets (now (frame .entry)) ⌝ }
 {
-    sirad_fields::read_targets(frame)
+    sirad_read::read_targets(frame)
 }
 
 // The status of exactly one whole U frame; else 5.
@@ -71,7 +71,7 @@ pub extern "C" fn vq_read_targets(frame: &[u8]) -> TargetFrame
 pub extern "C" fn vq_read_status(frame: &[u8]) -> StatusFrame
     ensures { λ r. ⌜ r ≡ readStatus (now (frame .entry)) ⌝ }
 {
-    sirad_fields::read_status(frame)
+    sirad_read::read_status(frame)
 }
 
 // The flags of exactly one whole E frame; else 5.
@@ -79,7 +79,7 @@ pub extern "C" fn vq_read_status(frame: &[u8]) -> StatusFrame
 pub extern "C" fn vq_read_error(frame: &[u8]) -> ErrorFrame
     ensures { λ r. ⌜ r ≡ readError (now (frame .entry)) ⌝ }
 {
-    sirad_fields::read_error(frame)
+    sirad_read::read_error(frame)
 }
 
 // -- SiRad frames: write
@@ -90,7 +90,7 @@ pub extern "C" fn vq_write_data(out: &mut [u8], kind: u32, content: &[u8]) -> Wr
     ensures { λ r. ⌜ Writes (dataRefusal kind (now (content .entry)))
         (dataBytes kind (now (content .entry))) (now (out .entry)) r (now (out .exit)) ⌝ }
 {
-    sirad_fields::write_data(out, kind, content)
+    sirad_write::write_data(out, kind, content)
 }
 
 // Writes a T frame with the format, gain and targets of `frame`, whose refusal counts for nothing; 50, 51.
@@ -100,7 +100,7 @@ pub extern "C" fn vq_write_targets(out: &mut [u8], frame: TargetFrame) -> Writte
         (targetsBytes (frame .format) (frame .gain) (frame .targets)) (now (out .entry)) r (now (out .exit)) ⌝ }
 {
     let targets = frame.targets;
-    sirad_fields::write_targets(out, frame.format, frame.gain, targets)
+    sirad_targets::write_targets(out, frame.format, frame.gain, targets)
 }
 
 // Writes a U frame; 50, 51.
@@ -118,7 +118,7 @@ pub extern "C" fn vq_write_status(
     ensures { λ r. ⌜ Writes (statusRefusal (statusNumbers format gain accuracy range ramp bandwidth time))
         (statusBytes (statusNumbers format gain accuracy range ramp bandwidth time)) (now (out .entry)) r (now (out .exit)) ⌝ }
 {
-    sirad_fields::write_status(out, format, gain, accuracy, range, ramp, bandwidth, time)
+    sirad_write::write_status(out, format, gain, accuracy, range, ramp, bandwidth, time)
 }
 
 // Writes an E frame; 51.
@@ -126,7 +126,7 @@ pub extern "C" fn vq_write_status(
 pub extern "C" fn vq_write_error(out: &mut [u8], flags: u16) -> Written
     ensures { λ r. ⌜ Writes (errorRefusal flags) (errorBytes flags) (now (out .entry)) r (now (out .exit)) ⌝ }
 {
-    sirad_fields::write_error(out, flags)
+    sirad_write::write_error(out, flags)
 }
 
 // -- mmWave packets
