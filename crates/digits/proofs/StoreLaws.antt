@@ -13,7 +13,7 @@ use lib.Dec.{leb}
 use lib.ListN.{length, take, drop, set}
 use lib.Seq.{sets, sets-eq, length-sets, set-comm, take-at}
 use Rattle.digits.specs.LittleEndian.{toLittle}
-use Rattle.digits.specs.Stores.{stored, wordStored, writerAnswer, Writes}
+use Rattle.digits.specs.Stores.{stored, storedWithin, wordStored, writerAnswer, Writes}
 use Rattle.digits.specs.declared.Written.{Written}
 use Rattle.digits.proofs.Choices.{cond-apply, cond-same}
 
@@ -76,24 +76,52 @@ stored-parts l at bs h = sets-eq bs l at h
 pub stored-start : (l bs : List ℕ) → length bs ≤ length l → stored l 0 bs ≡ bs ++ drop (length bs) l
 stored-start l bs h = rw (zero-add (length bs)) at (stored-parts l 0 bs (omega arith))
 
+-- -- Stores that fit or change nothing
+
+-- bytes that fit are stored
+pub within-fits : (l : List ℕ) (at : ℕ) (bs : List ℕ) → at + length bs ≤ length l → storedWithin l at bs ≡ stored l at bs
+unfolding storedWithin
+within-fits l at bs h = rw (le-leb (at + length bs) (length l) h)
+
+-- bytes that do not fit change nothing
+pub within-unfit : (l : List ℕ) (at : ℕ) (bs : List ℕ) → length l < at + length bs → storedWithin l at bs ≡ l
+unfolding storedWithin
+within-unfit l at bs h = rw (lt-leb (at + length bs) (length l) h)
+
+-- either way the length stays
+pub length-within : (l : List ℕ) (at : ℕ) (bs : List ℕ) → length (storedWithin l at bs) ≡ length l
+unfolding storedWithin
+length-within l at bs =
+    cond-apply length (leb (at + length bs) (length l)) (stored l at bs) l
+    ∙ rw (length-stored l at bs) (cond-same (leb (at + length bs) (length l)) (length l))
+
+-- a piece that fits, then what follows it, is both stored at once: the step of every writer with room for m bytes
+pub then-within : (l l′ r : List ℕ) (m at n : ℕ) (xs ys : List ℕ) → m ≤ length l → at + n ≤ m → length xs ≡ n → l′ ≡ storedWithin l at xs
+    → (m ≤ length l′ → r ≡ stored l′ (at + n) ys) → r ≡ stored l at (xs ++ ys)
+then-within l l′ r m at n xs ys room fits size p rest =
+    let same : length l′ ≡ length l = ap length p ∙ length-within l at xs in
+    then l l′ r at n xs ys (p ∙ within-fits l at xs (omega arith)) size (rest (omega arith))
+
+-- the last piece
+pub last-within : (l r : List ℕ) (m at : ℕ) (xs : List ℕ) → m ≤ length l → at + length xs ≤ m → r ≡ storedWithin l at xs → r ≡ stored l at xs
+last-within l r m at xs room fits p = p ∙ within-fits l at xs (omega arith)
+
 -- -- 32-bit numbers
 
 -- a number that fits is its four bytes
 pub word-fits : (l : List ℕ) (at v : ℕ) → at + 4 ≤ length l → wordStored l at v ≡ stored l at (toLittle 4 v)
-unfolding wordStored
-word-fits l at v h = rw (le-leb (at + 4) (length l) h)
+unfolding wordStored toLittle
+word-fits l at v h = within-fits l at (toLittle 4 v) h
 
 -- a number that does not fit changes nothing
 pub word-unfit : (l : List ℕ) (at v : ℕ) → length l < at + 4 → wordStored l at v ≡ l
-unfolding wordStored
-word-unfit l at v h = rw (lt-leb (at + 4) (length l) h)
+unfolding wordStored toLittle
+word-unfit l at v h = within-unfit l at (toLittle 4 v) h
 
 -- either way the length stays
 pub length-word-stored : (l : List ℕ) (at v : ℕ) → length (wordStored l at v) ≡ length l
 unfolding wordStored
-length-word-stored l at v =
-    cond-apply length (leb (at + 4) (length l)) (stored l at (toLittle 4 v)) l
-    ∙ rw (length-stored l at (toLittle 4 v)) (cond-same (leb (at + 4) (length l)) (length l))
+length-word-stored l at v = length-within l at (toLittle 4 v)
 
 -- four stores in a row are the number
 pub four-stores : (l : List ℕ) (at v : ℕ) → at + 4 ≤ length l

@@ -1,12 +1,14 @@
-// Classes of bytes; numbers as bytes, hex and little-endian, both ways; stores into a lent buffer.
+// Classes of bytes; numbers as bytes, hex and little-endian, both ways.
 
 ghost use mathlib.Core.Path.{_≡_};
 ghost use mathlib.Core.Bool.{_&&_, _||_};
 ghost use mathlib.Core.List.{[], _∷_};
+ghost use Prim.Native.Nat.{_+_, _%_, _≤_, min};
+ghost use lib.ListN.{length};
 ghost use Rattle.digits.specs.Bytes.{within, isHex, isCharacter};
-ghost use Rattle.digits.specs.Hex.{digit};
+ghost use Rattle.digits.specs.Hex.{digit, glyph, hexAt, hexDigits};
 ghost use Rattle.digits.specs.LittleEndian.{fromLittle, wordAt};
-ghost use Rattle.digits.specs.Stores.{wordStored};
+ghost use Rattle.digits.specs.Stores.{storedWithin, wordStored};
 
 // The refusal of every writer whose output is too short (paper 01, "Refusal numbers").
 pub const OUTPUT_TOO_SHORT: u32 = 51;
@@ -15,6 +17,9 @@ pub const OUTPUT_TOO_SHORT: u32 = 51;
 const FIRST_CHARACTER: u8 = 34;
 
 const LAST_CHARACTER: u8 = 254;
+
+// As many hex digits as 32 bits take.
+const MOST_DIGITS: usize = 8;
 
 // What a writer answers: the refusal number (0: none) and the bytes produced.
 #[repr(C)]
@@ -72,6 +77,75 @@ pub fn digit_of(b: u8) -> u16
         return b as u16 - 55;
     }
     0
+}
+
+// The byte of a number's lowest hex digit: 70 (`F`) for 15, and for 31.
+pub fn glyph_of(v: u32) -> u8
+    ensures { λ r. ⌜ r ≡ glyph (v % 16) ⌝ }
+{
+    let d = (v % 16) as u8;
+    if d <= 9 {
+        return 48 + d;
+    }
+    55 + d
+}
+
+// -- Hex numbers
+
+fn least(a: usize, b: usize) -> usize
+    ensures { λ r. ⌜ r ≡ min a b ⌝ }
+{
+    if a < b {
+        return a;
+    }
+    b
+}
+
+fn hex_from(s: &[u8], at: usize, n: usize) -> u32
+    requires { ⌜ (n ≤ 8) × (at + n ≤ length (now s)) ⌝ }
+    ensures { λ r. ⌜ r ≡ hexAt n at (now (s .entry)) ⌝ }
+{
+    let mut v: u32 = 0;
+    let mut i: usize = 0;
+    while i < n {
+        let d = digit_of(s[at + i]);
+        v = v * 16 + d as u32;
+        i = i + 1;
+    }
+    v
+}
+
+// The number of the n digits from an offset on, at most eight; of fewer where the bytes end before.
+// `hex_at(b"!R0102", 2, 4)` is 258.
+pub fn hex_at(s: &[u8], at: usize, n: usize) -> u32
+    ensures { λ r. ⌜ r ≡ hexAt (min n 8) at (now (s .entry)) ⌝ }
+{
+    if s.len() < at {
+        return 0;
+    }
+    let digits = least(n, MOST_DIGITS);
+    let count = least(digits, s.len() - at);
+    hex_from(s, at, count)
+}
+
+// Lays the lowest n digits of a number over the buffer at an offset; changes nothing where they do not fit.
+// `put_hex(out, 2, 4, 258)` stores `0102`.
+pub fn put_hex(out: &mut [u8], at: usize, n: usize, v: u32)
+    ensures { λ r. ⌜ now (out .exit) ≡ storedWithin (now (out .entry)) at (hexDigits n v) ⌝ }
+{
+    if out.len() < at {
+        return;
+    }
+    if out.len() - at < n {
+        return;
+    }
+    let mut rest = v;
+    let mut i = n;
+    while 0 < i {
+        i = i - 1;
+        out[at + i] = glyph_of(rest);
+        rest = rest / 16;
+    }
 }
 
 // -- 32-bit numbers

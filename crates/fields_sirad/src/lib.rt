@@ -19,7 +19,7 @@ ghost use Rattle.sirad_fields.specs.Fields.{statusNumbers, statusRefusal, statu
 pub extern "C" fn vq_read_data(frame: &[u8]) -> DataFrame
     ensures { λ r. ⌜ r ≡ readData (now (frame .entry)) ⌝ }
 {
-    sirad_fields::read_data(frame)
+    sirad_read::read_data(frame)
 }
 
 // The sixteen targets of exactly one whole T frame; else 5.
@@ -27,7 +27,7 @@ pub extern "C" fn vq_read_data(frame: &[u8]) -> DataFrame
 pub extern "C" fn vq_read_targets(frame: &[u8]) -> TargetFrame
     ensures { λ r. ⌜ r ≡ readTargets (now (frame .entry)) ⌝ }
 {
-    sirad_fields::read_targets(frame)
+    sirad_read::read_targets(frame)
 }
 
 // The status of exactly one whole U frame; else 5.
@@ -35,7 +35,7 @@ pub extern "C" fn vq_read_targets(frame: &[u8]) -> TargetFrame
 pub extern "C" fn vq_read_status(frame: &[u8]) -> StatusFrame
     ensures { λ r. ⌜ r ≡ readStatus (now (frame .entry)) ⌝ }
 {
-    sirad_fields::read_status(frame)
+    sirad_read::read_status(frame)
 }
 
 // The flags of exactly one whole E frame; else 5.
@@ -43,7 +43,7 @@ pub extern "C" fn vq_read_status(frame: &[u8]) -> StatusFrame
 pub extern "C" fn vq_read_error(frame: &[u8]) -> ErrorFrame
     ensures { λ r. ⌜ r ≡ readError (now (frame .entry)) ⌝ }
 {
-    sirad_fields::read_error(frame)
+    sirad_read::read_error(frame)
 }
 
 // -- Write
@@ -54,7 +54,7 @@ pub extern "C" fn vq_write_data(out: &mut [u8], kind: u32, content: &[u8]) -> Wr
     ensures { λ r. ⌜ Writes (dataRefusal kind (now (content .entry)))
         (dataBytes kind (now (content .entry))) (now (out .entry)) r (now (out .exit)) ⌝ }
 {
-    sirad_fields::write_data(out, kind, content)
+    sirad_write::write_data(out, kind, content)
 }
 
 // Writes a T frame with the format, gain and targets of `frame`, whose refusal counts for nothing; 50, 51.
@@ -64,7 +64,7 @@ pub extern "C" fn vq_write_targets(out: &mut [u8], frame: TargetFrame) -> Writte
         (targetsBytes (frame .format) (frame .gain) (frame .targets)) (now (out .entry)) r (now (out .exit)) ⌝ }
 {
     let targets = frame.targets;
-    sirad_fields::write_targets(out, frame.format, frame.gain, targets)
+    sirad_targets::write_targets(out, frame.format, frame.gain, targets)
 }
 
 // Writes a U frame; 50, 51.
@@ -82,7 +82,7 @@ pub extern "C" fn vq_write_status(
     ensures { λ r. ⌜ Writes (statusRefusal (statusNumbers format gain accuracy range ramp bandwidth time))
         (statusBytes (statusNumbers format gain accuracy range ramp bandwidth time)) (now (out .entry)) r (now (out .exit)) ⌝ }
 {
-    sirad_fields::write_status(out, format, gain, accuracy, range, ramp, bandwidth, time)
+    sirad_write::write_status(out, format, gain, accuracy, range, ramp, bandwidth, time)
 }
 
 // Writes an E frame; 51.
@@ -90,5 +90,5 @@ pub extern "C" fn vq_write_status(
 pub extern "C" fn vq_write_error(out: &mut [u8], flags: u16) -> Written
     ensures { λ r. ⌜ Writes (errorRefusal flags) (errorBytes flags) (now (out .entry)) r (now (out .exit)) ⌝ }
 {
-    sirad_fields::write_error(out, flags)
+    sirad_write::write_error(out, flags)
 }

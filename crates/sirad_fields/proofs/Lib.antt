@@ -5,7 +5,6 @@ pub mod ReadsExactly
 pub mod RoundTrips
 pub mod BufferTrips
 pub mod NumberLaws
-pub mod StoringLaws
 pub mod ReadingLaws
 pub mod WritingLaws
 pub mod FrameStores

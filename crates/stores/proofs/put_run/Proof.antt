@@ -1,0 +1,77 @@
+-- Storing the bytes left gives what storing all of them gave.
+use mathlib.Core.Path.{_≡_, refl, sym, _∙_}
+use Prim.Native.Nat.{_+_, _-_, _≤_}
+use native.Mathlib.Omega.{arith}
+use lib.ListN.{length, drop, replicate, length-set}
+use Rattle.digits.specs.Stores.{stored}
+use Rattle.digits.proofs.StoreSteps.{store-start, run-next, run-end, run-fits, run-unfit}
+use Rattle.stores.proofs.put_run.Statement.{statement}
+use Rattle.stores.proofs.put_run.Tie as tie
+
+abbrev Inv-loop : tie.InvT-loop
+Inv-loop out₀ at n b i₀ out i =
+    (i ≤ n) × (length out ≡ length out₀) × (stored out (at + i) (drop i (replicate n b)) ≡ stored out₀ at (replicate n b))
+
+abbrev μ-loop : tie.MeasureT-loop
+μ-loop out₀ at n b i₀ out i = n - i
+
+returns : tie.Need-returns Inv-loop μ-loop
+returns c = let a = c .before .args in sym (run-unfit (a .out .now) (a .at) (a .n) (a .b) (omega arith))
+
+sub-if2 : tie.Need-sub-if2 Inv-loop μ-loop
+sub-if2 c = omega arith
+
+returns-2 : tie.Need-returns-2 Inv-loop μ-loop
+returns-2 c = let a = c .before .before .args in sym (run-unfit (a .out .now) (a .at) (a .n) (a .b) (omega arith))
+
+loop-holds : tie.Need-loop-holds Inv-loop μ-loop
+loop-holds c =
+    let a = c .before .before .args in
+    (omega arith, refl, store-start (a .out .now) (replicate (a .n) (a .b)) (a .at))
+
+add-out : tie.Need-add-out Inv-loop μ-loop
+add-out c = omega arith
+
+slice-write-out : tie.Need-slice-write-out Inv-loop μ-loop
+slice-write-out c = omega arith
+
+add-i : tie.Need-add-i Inv-loop μ-loop
+add-i c = omega arith
+
+loop-less : tie.Need-loop-less Inv-loop μ-loop
+loop-less c = omega arith
+
+loop-again : tie.Need-loop-again Inv-loop μ-loop
+loop-again c =
+    let l = c .before .loop in
+    let a = c .before .before .before .before .args in
+    let next = run-next (l .out) (a .at) (a .n) (a .b) (l .i) (c .loop-test .taken) in
+    (omega arith, simp length-set (l .inv .1), sym next ∙ l .inv .2)
+
+same-length : tie.Need-same-length Inv-loop μ-loop
+same-length c = c .before .loop .inv .1
+
+returns-3 : tie.Need-returns-3 Inv-loop μ-loop
+returns-3 c =
+    let l = c .before .loop in
+    let a = c .before .before .before .before .args in
+    let fits = run-fits (a .out .now) (a .at) (a .n) (a .b) (omega arith) in
+    sym (run-end (l .out) (a .at) (a .n) (a .b) (l .i) (c .loop-test .left)) ∙ l .inv .2 ∙ sym fits
+
+pub put-run-spec : {M : Type 1} → statement M
+put-run-spec =
+    tie.close
+    (tie.spec
+    Inv-loop
+    μ-loop
+    returns
+    sub-if2
+    returns-2
+    loop-holds
+    add-out
+    slice-write-out
+    add-i
+    loop-less
+    loop-again
+    same-length
+    returns-3)
