@@ -1,7 +1,8 @@
 // A packet judged piece by piece in byte order, which fits any number of bytes (paper 01, "mmWave" and "Judging a place").
 ghost use mathlib.Core.Path.{_≡_};
 ghost use Prim.Native.Nat.{_+_, _-_, _*_};
-ghost use Rattle.form.specs.Form.{judge as Form·judge, judgeAt};
+ghost use Rattle.form.specs.Form.{judgeAt};
+ghost use Rattle.form.specs.Numbers.{Judges};
 ghost use Rattle.form.specs.Pieces.{four, marker};
 ghost use Rattle.mmwave.specs.Profile.{lengthOk, typeOk};
 ghost use Rattle.mmwave.specs.Packet.{magic, entry, last, records, counted, packet};
@@ -139,7 +140,7 @@ fn padding_at(s: &[u8], at: usize, room: u64) -> Judgement
 
 // The `k` records from `at` on, and the padding: the first one, then the remaining ones right behind it.
 pub fn walk(s: &[u8], at: usize, objects: u32, k: u32, room: u64) -> Judgement
-    ensures { λ r. ⌜ r ≡ judgeAt (records mmWave objects k room) at (now (s .entry)) ⌝ }
+    ensures { λ r. ⌜ Judges (records mmWave objects k room) at (now (s .entry)) r ⌝ }
 {
     if k == 0 {
         return padding_at(s, at, room);
@@ -178,7 +179,7 @@ fn behind_total(s: &[u8], at: usize, l: u32) -> Judgement
 
 // The judgement piece by piece, which fits any number of bytes.
 pub fn judge_pieces(bytes: &[u8]) -> Judgement
-    ensures { λ r. ⌜ r ≡ Form·judge (packet mmWave) 0 (now (bytes .entry)) ⌝ }
+    ensures { λ r. ⌜ Judges (packet mmWave) 0 (now (bytes .entry)) r ⌝ }
 {
     let a = magic_at(bytes, 0);
     let Judgement::Whole(_, g) = a else {

@@ -5,6 +5,7 @@ ghost use mathlib.Core.Bool.{true};
 ghost use Prim.Native.Nat.{_+_, _≤_};
 ghost use lib.ListN.{length};
 ghost use Rattle.form.specs.Form.{judgeAt};
+ghost use Rattle.form.specs.Numbers.{Judges};
 ghost use Rattle.form.specs.Pieces.{one};
 ghost use Rattle.sirad.specs.Classes.{accepts, reason};
 ghost use Rattle.sirad.specs.Sirad.{run, block};
@@ -51,7 +52,7 @@ fn reason_of(c: Class) -> u32
 }
 
 pub fn byte_of(s: &[u8], at: usize, c: Class) -> Judgement
-    ensures { λ r. ⌜ r ≡ judgeAt (one (reason c) (accepts c)) at (now (s .entry)) ⌝ }
+    ensures { λ r. ⌜ Judges (one (reason c) (accepts c)) at (now (s .entry)) r ⌝ }
 {
     if s.len() <= at {
         return Judgement::Waiting; // the byte may still come
@@ -97,19 +98,34 @@ fn all_of(s: &[u8], from: usize, n: usize, c: Class) -> bool
     ok
 }
 
-// n bytes of a class, tested together; one by one where they fail.
-pub fn run_of(s: &[u8], from: usize, n: usize, c: Class) -> Judgement
-    ensures { λ r. ⌜ r ≡ judgeAt (run n c) from (now (s .entry)) ⌝ }
+// n hex digits, tested together; one by one where they fail. With a class for a parameter the loop would ask for it at each byte.
+pub fn hexes(s: &[u8], from: usize, n: usize) -> Judgement
+    ensures { λ r. ⌜ Judges (run n Class.Hex) from (now (s .entry)) r ⌝ }
 {
     if from <= s.len() {
         if n <= s.len() - from {
-            if all_of(s, from, n, c) {
+            if all_of(s, from, n, Class::Hex) {
                 let end = from + n;
                 return Judgement::Whole(0, end);
             }
         }
     }
-    span(s, from, n, c)
+    span(s, from, n, Class::Hex)
+}
+
+// A few characters, in the same way.
+fn few_chars(s: &[u8], from: usize, n: usize) -> Judgement
+    ensures { λ r. ⌜ r ≡ judgeAt (run n Class.Char) from (now (s .entry)) ⌝ }
+{
+    if from <= s.len() {
+        if n <= s.len() - from {
+            if all_of(s, from, n, Class::Char) {
+                let end = from + n;
+                return Judgement::Whole(0, end);
+            }
+        }
+    }
+    span(s, from, n, Class::Char)
 }
 
 fn step_of(left: usize) -> usize
@@ -120,13 +136,13 @@ fn step_of(left: usize) -> usize
 
 // n characters, a chunk at a time: a size off the wire costs no more than a chunk behind the byte that fails.
 pub fn chars(s: &[u8], from: usize, n: usize) -> Judgement
-    ensures { λ r. ⌜ r ≡ judgeAt (run n Class.Char) from (now (s .entry)) ⌝ }
+    ensures { λ r. ⌜ Judges (run n Class.Char) from (now (s .entry)) r ⌝ }
 {
     let mut at = from;
     let mut left = n;
     while 0 < left {
         let step = step_of(left);
-        let a = run_of(s, at, step, Class::Char);
+        let a = few_chars(s, at, step);
         let Judgement::Whole(_, e) = a else {
             return a;
         };
@@ -170,7 +186,7 @@ fn block_slowly(s: &[u8], at: usize) -> Judgement
 }
 
 pub fn block_at(s: &[u8], from: usize) -> Judgement
-    ensures { λ r. ⌜ r ≡ judgeAt block from (now (s .entry)) ⌝ }
+    ensures { λ r. ⌜ Judges block from (now (s .entry)) r ⌝ }
 {
     if from <= s.len() {
         if BLOCK_BYTES <= s.len() - from {

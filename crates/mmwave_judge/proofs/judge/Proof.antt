@@ -8,7 +8,7 @@ judge-pieces-requires : tie.Need-judge-pieces-requires
 judge-pieces-requires c κs = search needs
 
 returns : tie.Need-returns
-returns c = judges (c .judge-pieces .ensures)
+returns c = c .judge-pieces .ensures
 
 judge-header-requires : tie.Need-judge-header-requires
 judge-header-requires c κs = search needs

@@ -1,9 +1,9 @@
 -- The first record, and then the remaining ones, one fewer; a whole record lies in the room.
 use borrow.Author.Needs.{needs}
+use Rattle.form.proofs.Laws.{go-on, halt, judges}
 use mathlib.Core.Path.{_≡_, refl, sym, ap, _∙_}
 use native.Mathlib.Omega.{arith}
 use Rattle.form.specs.Form.{Form, judgeAt}
-use Rattle.form.proofs.Laws.{go-on, halt}
 use Rattle.mmwave.specs.MmWave.{mmWave}
 use Rattle.mmwave.proofs.Laws.{records-none, records-more, entry-fits}
 use Rattle.mmwave.proofs.MmWaveSound.{mmWave-sound}
@@ -42,7 +42,7 @@ walk-padding-at-requires : (t : ℕ) → walk-lts.Need-padding-at-requires (call
 walk-padding-at-requires t c κs = search needs
 
 walk-returns : (t : ℕ) → walk-lts.Need-returns (calls t) (walk-at t) walk.Post
-walk-returns t c = c .padding-at .ensures ∙ records-none mmWave _ _ _ _ _ (c .before .if1 .taken)
+walk-returns t c = judges (c .padding-at .ensures ∙ records-none mmWave _ _ _ _ _ (c .before .if1 .taken))
 
 walk-record-at-requires : (t : ℕ) → walk-lts.Need-record-at-requires (calls t) (walk-at t) walk.Post
 walk-record-at-requires t c κs = search needs
@@ -54,8 +54,8 @@ walk-returns-2 : (t : ℕ) → walk-lts.Need-returns-2 (calls t) (walk-at t) wal
 walk-returns-2 t c =
     let r = c .before in let i1 = r .before in let start = i1 .before .before in
     let a = start .args in
-    halt _ _ _ _ (r .record-at .ensures) (c .match .keys2)
-    ∙ sym (ap (λ (p : Form). judgeAt p (a .at) (a .s .now)) (records-more mmWave _ _ _ (i1 .if1 .left)))
+    judges (halt _ _ _ _ (r .record-at .ensures) (c .match .keys2)
+    ∙ sym (ap (λ (p : Form). judgeAt p (a .at) (a .s .now)) (records-more mmWave _ _ _ (i1 .if1 .left))))
 
 walk-sub-walk : (t : ℕ) → walk-lts.Need-sub-walk (calls t) (walk-at t) walk.Post
 walk-sub-walk t c = search needs
@@ -78,9 +78,9 @@ walk-returns-3 t c =
     let a = c .before .before in let r = a .before .before in let i1 = r .before in
     let start = i1 .before .before in
     let args = start .args in
-    c .walk .ensures
+    judges (c .walk .ensures .answers
     ∙ sym (ap (λ (p : Form). judgeAt p (args .at) (args .s .now)) (records-more mmWave _ _ _ (i1 .if1 .left))
-    ∙ go-on _ _ _ _ (r .record-at .ensures) (a .a .given .1))
+    ∙ go-on _ _ _ _ (r .record-at .ensures) (a .a .given .1)))
 
 pub +walk-spec : {M : Type 1} → statement M
 +walk-spec = close μ-walk λ t. walk-lts.spec (calls t)

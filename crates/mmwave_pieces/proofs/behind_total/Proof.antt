@@ -86,7 +86,7 @@ returns-5 c =
     let f = c .before .before in let s2 = f .before .before in let d = s2 .before .before in
     let k = d .before .before in let b = k .before .before in let n = b .before .before in
     let a = n .before .before in let s = a .before .before in
-    c .walk .ensures
+    c .walk .ensures .answers
     ∙ sym (go-on _ _ _ _ (s2 .skip-numbers2 .ensures .answers) (f .f .given .1))
     ∙ sym (go-on _ _ _ _ (k .count-at .ensures) (d .d .given .1))
     ∙ sym (go-on _ _ _ _ (n .number .ensures .answers) (b .b .given .1))

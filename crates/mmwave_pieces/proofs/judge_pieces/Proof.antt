@@ -1,8 +1,8 @@
 -- Each piece goes on from the end of the one before.
 use borrow.Author.Needs.{needs}
+use Rattle.form.proofs.Laws.{go-on, halt, judges}
 use mathlib.Core.Path.{refl, sym, ap, _∙_}
 use native.Mathlib.Omega.{arith}
-use Rattle.form.proofs.Laws.{go-on, halt}
 use Rattle.mmwave.specs.Packet.{packet}
 use Rattle.mmwave_pieces.proofs.judge_pieces.Statement.{statement}
 use Rattle.mmwave_pieces.proofs.judge_pieces.Tie as tie
@@ -15,7 +15,7 @@ enum-known-a c = search needs
 
 returns : tie.Need-returns
 unfolding packet
-returns c = halt _ _ _ _ (c .before .magic-at .ensures) (c .match .keys2)
+returns c = judges (halt _ _ _ _ (c .before .magic-at .ensures) (c .match .keys2))
 
 skip-numbers-requires : tie.Need-skip-numbers-requires
 skip-numbers-requires c κs = search needs
@@ -27,7 +27,7 @@ returns-2 : tie.Need-returns-2
 unfolding packet
 returns-2 c =
     let s = c .before in let a = s .before .before in let m = a .before .before in
-    halt _ _ _ _ (s .skip-numbers .ensures .answers) (c .match2 .keys2) ∙ sym (go-on _ _ _ _ (m .magic-at .ensures) (a .a .given .1))
+    judges (halt _ _ _ _ (s .skip-numbers .ensures .answers) (c .match2 .keys2) ∙ sym (go-on _ _ _ _ (m .magic-at .ensures) (a .a .given .1)))
 
 total-at-requires : tie.Need-total-at-requires
 total-at-requires c κs = search needs
@@ -40,9 +40,9 @@ unfolding packet
 returns-3 c =
     let t0 = c .before in let b = t0 .before .before in let s = b .before .before in
     let a = s .before .before in let m = a .before .before in
-    halt _ _ _ _ (t0 .total-at .ensures) (c .match3 .keys2)
+    judges (halt _ _ _ _ (t0 .total-at .ensures) (c .match3 .keys2)
     ∙ sym (go-on _ _ _ _ (s .skip-numbers .ensures .answers) (b .b .given .1))
-    ∙ sym (go-on _ _ _ _ (m .magic-at .ensures) (a .a .given .1))
+    ∙ sym (go-on _ _ _ _ (m .magic-at .ensures) (a .a .given .1)))
 
 behind-total-requires : tie.Need-behind-total-requires
 behind-total-requires c κs = search needs
@@ -52,10 +52,10 @@ unfolding packet
 returns-4 c =
     let d = c .before .before in let t0 = d .before .before in let b = t0 .before .before in
     let s = b .before .before in let a = s .before .before in let m = a .before .before in
-    c .behind-total .ensures
+    judges (c .behind-total .ensures
     ∙ sym (go-on _ _ _ _ (t0 .total-at .ensures) (d .d .given .1))
     ∙ sym (go-on _ _ _ _ (s .skip-numbers .ensures .answers) (b .b .given .1))
-    ∙ sym (go-on _ _ _ _ (m .magic-at .ensures) (a .a .given .1))
+    ∙ sym (go-on _ _ _ _ (m .magic-at .ensures) (a .a .given .1)))
 
 pub judge-pieces-spec : {M : Type 1} → statement M
 judge-pieces-spec =

@@ -26,7 +26,7 @@ enum-known-a c = search needs
 returns : tie.Need-returns Inv-loop μ-loop
 returns c =
     let b = c .before in let turn = b .before in let l = turn .before in
-    blocks-halt _ _ _ (turn .loop-test .taken) (b .block-at .ensures) (c .match .keys2) ∙ sym (l .loop .inv)
+    blocks-halt _ _ _ (turn .loop-test .taken) (b .block-at .ensures .answers) (c .match .keys2) ∙ sym (l .loop .inv)
 
 sub-left : tie.Need-sub-left Inv-loop μ-loop
 sub-left c = search needs
@@ -37,7 +37,7 @@ loop-less c = search needs
 loop-again : tie.Need-loop-again Inv-loop μ-loop
 loop-again c =
     let a = c .before in let b = a .before .before in let turn = b .before in let l = turn .before in
-    l .loop .inv ∙ blocks-next _ _ _ (turn .loop-test .taken) (b .block-at .ensures) (a .a .given .1)
+    l .loop .inv ∙ blocks-next _ _ _ (turn .loop-test .taken) (b .block-at .ensures .answers) (a .a .given .1)
 
 stop-requires : tie.Need-stop-requires Inv-loop μ-loop
 stop-requires c κs = search needs

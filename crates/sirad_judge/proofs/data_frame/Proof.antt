@@ -35,7 +35,7 @@ returns-2 : tie.Need-returns-2
 returns-2 c =
     let ch = c .before in let a = ch .before .before in let h = a .before .before in
     let start = h .before .before in
-    halt _ _ _ _ (ch .chars .ensures) (c .match2 .keys2)
+    halt _ _ _ _ (ch .chars .ensures .answers) (c .match2 .keys2)
     ∙ sym (data-form _ _ _ _)
     ∙ sym (go-on _ (λ n. row (dataPieces n) (start .args .kind)) _ _ (h .hex-number .ensures) (a .a .given .1))
 
@@ -47,7 +47,7 @@ returns-3 c =
     let b = c .before .before in let ch = b .before .before in let a = ch .before .before in
     let h = a .before .before in let start = h .before .before in
     c .stop .ensures
-    ∙ sym (go-on _ _ _ _ (ch .chars .ensures) (b .b .given .1))
+    ∙ sym (go-on _ _ _ _ (ch .chars .ensures .answers) (b .b .given .1))
     ∙ sym (data-form _ _ _ _)
     ∙ sym (go-on _ (λ n. row (dataPieces n) (start .args .kind)) _ _ (h .hex-number .ensures) (a .a .given .1))
 

@@ -1,5 +1,6 @@
 -- All seen at once, or else run by run.
 use borrow.Author.Needs.{needs}
+use Rattle.form.proofs.Laws.{judges}
 use mathlib.Core.Path.{sym}
 use Rattle.sirad_pieces.proofs.block_at.Statement.{statement}
 use Rattle.sirad_pieces.proofs.block_at.Tie as tie
@@ -14,13 +15,13 @@ add-end : tie.Need-add-end
 add-end c = search needs
 
 returns : tie.Need-returns
-returns c = sym (c .before .seen-block .ensures (c .if3 .taken))
+returns c = judges (sym (c .before .seen-block .ensures (c .if3 .taken)))
 
 block-slowly-requires : tie.Need-block-slowly-requires
 block-slowly-requires c κs = search needs
 
 returns-2 : tie.Need-returns-2
-returns-2 c = search needs
+returns-2 c = judges (c .block-slowly .ensures)
 
 pub block-at-spec : {M : Type 1} → statement M
 block-at-spec =

@@ -1,5 +1,6 @@
 -- No byte is there, it passes, or it is refused.
 use borrow.Author.Needs.{needs}
+use Rattle.form.proofs.Laws.{judges}
 use mathlib.Core.Path.{sym, ap, _∙_}
 use native.Mathlib.Omega.{arith}
 use Rattle.form.specs.declared.Judgement.the-variants.{Bad}
@@ -8,7 +9,7 @@ use Rattle.sirad_pieces.proofs.byte_of.Statement.{statement}
 use Rattle.sirad_pieces.proofs.byte_of.Tie as tie
 
 returns : tie.Need-returns
-returns c = one-ends _ _ _ _ (c .if1 .taken)
+returns c = judges (one-ends _ _ _ _ (c .if1 .taken))
 
 shared-slice-read-b : tie.Need-shared-slice-read-b
 shared-slice-read-b c = search needs
@@ -27,7 +28,7 @@ cast-v c =
 returns-2 : tie.Need-returns-2
 returns-2 c =
     let i = c .before in let i1 = i .before .before in
-    one-hit _ _ _ _ (i1 .if1 .left) (sym (i .is-of .ensures) ∙ c .if2 .taken)
+    judges (one-hit _ _ _ _ (i1 .if1 .left) (sym (i .is-of .ensures) ∙ c .if2 .taken))
 
 reason-of-requires : tie.Need-reason-of-requires
 reason-of-requires c κs = search needs
@@ -35,7 +36,7 @@ reason-of-requires c κs = search needs
 returns-3 : tie.Need-returns-3
 returns-3 c =
     let i2 = c .before in let i = i2 .before in let i1 = i .before .before in
-    ap Bad (c .reason-of .ensures) ∙ one-miss _ _ _ _ (i1 .if1 .left) (sym (i .is-of .ensures) ∙ i2 .if2 .left)
+    judges (ap Bad (c .reason-of .ensures) ∙ one-miss _ _ _ _ (i1 .if1 .left) (sym (i .is-of .ensures) ∙ i2 .if2 .left))
 
 pub byte-of-spec : {M : Type 1} → statement M
 byte-of-spec =

@@ -25,7 +25,7 @@ enum-known-a c = search needs
 returns : tie.Need-returns Inv-loop μ-loop
 returns c =
     let b = c .before in let turn = b .before in let l = turn .before in
-    run-halts _ _ _ _ (turn .loop-test .taken) (b .byte-of .ensures) (c .match .keys2) ∙ sym (l .loop .inv)
+    run-halts _ _ _ _ (turn .loop-test .taken) (b .byte-of .ensures .answers) (c .match .keys2) ∙ sym (l .loop .inv)
 
 sub-left : tie.Need-sub-left Inv-loop μ-loop
 sub-left c = search needs
@@ -36,7 +36,7 @@ loop-less c = search needs
 loop-again : tie.Need-loop-again Inv-loop μ-loop
 loop-again c =
     let a = c .before in let b = a .before .before in let turn = b .before in let l = turn .before in
-    l .loop .inv ∙ run-next _ _ _ _ (turn .loop-test .taken) (b .byte-of .ensures) (a .a .given .1)
+    l .loop .inv ∙ run-next _ _ _ _ (turn .loop-test .taken) (b .byte-of .ensures .answers) (a .a .given .1)
 
 returns-2 : tie.Need-returns-2 Inv-loop μ-loop
 returns-2 c = run-over _ _ _ _ (c .loop-test .left) ∙ sym (c .before .loop .inv)
