@@ -21,66 +21,35 @@ starts-at t = and 1 starts-kinds.ps (is 1 starts-kinds.ps μ-starts t) starts.Pr
 abbrev starts-below : ℕ → In 1 starts-kinds.ps
 starts-below t = and 1 starts-kinds.ps (falls 1 starts-kinds.ps _<_ μ-starts t) starts.Pre
 
-starts-returns : (t : ℕ) → starts-lts.Need-returns (
-  behind-reads.Asked,
-  behind-reads.Learnt,
-  starts-below t,
-  starts.Post,
-) (starts-at t) starts.Post
+-- what each call asks and tells
+abbrev calls : ℕ → starts-lts.Claims
+calls t = (behind-reads.Asked, behind-reads.Learnt, starts-below t, starts.Post)
+
+starts-returns : (t : ℕ) → starts-lts.Need-returns (calls t) (starts-at t) starts.Post
 starts-returns t c = none-starts _ _ _ _ (c .if1 .taken)
 
-starts-returns-2 : (t : ℕ) → starts-lts.Need-returns-2 (
-  behind-reads.Asked,
-  behind-reads.Learnt,
-  starts-below t,
-  starts.Post,
-) (starts-at t) starts.Post
+starts-returns-2 : (t : ℕ) → starts-lts.Need-returns-2 (calls t) (starts-at t) starts.Post
 starts-returns-2 t c = one-starts _ _ _ _ (c .before .if1 .left) (c .if2 .taken)
 
-starts-behind-requires : (t : ℕ) → starts-lts.Need-behind-requires (
-  behind-reads.Asked,
-  behind-reads.Learnt,
-  starts-below t,
-  starts.Post,
-) (starts-at t) starts.Post
+starts-behind-requires : (t : ℕ) → starts-lts.Need-behind-requires (calls t) (starts-at t) starts.Post
 starts-behind-requires t c κs = walk-starts _ _ _ (c .before .before .before .pre .1)
 
-starts-sub-starts : (t : ℕ) → starts-lts.Need-sub-starts (
-  behind-reads.Asked,
-  behind-reads.Learnt,
-  starts-below t,
-  starts.Post,
-) (starts-at t) starts.Post
+starts-sub-starts : (t : ℕ) → starts-lts.Need-sub-starts (calls t) (starts-at t) starts.Post
 starts-sub-starts t c = search needs
 
-starts-starts-requires : (t : ℕ) → starts-lts.Need-starts-requires (
-  behind-reads.Asked,
-  behind-reads.Learnt,
-  starts-below t,
-  starts.Post,
-) (starts-at t) starts.Post
+starts-starts-requires : (t : ℕ) → starts-lts.Need-starts-requires (calls t) (starts-at t) starts.Post
 starts-starts-requires t c κs =
     let entry = c .before .before .before .before in
     let more = c .before .before .if1 .left in
     (omega (arith, entry .pre .0, more), walk-next _ _ _ more (c .behind .ensures) (entry .pre .1))
 
-starts-returns-3 : (t : ℕ) → starts-lts.Need-returns-3 (
-  behind-reads.Asked,
-  behind-reads.Learnt,
-  starts-below t,
-  starts.Post,
-) (starts-at t) starts.Post
+starts-returns-3 : (t : ℕ) → starts-lts.Need-returns-3 (calls t) (starts-at t) starts.Post
 starts-returns-3 t c =
     let w = c .before .before in
     later-starts _ _ _ _ (w .before .if1 .left) (w .if2 .left) (c .before .behind .ensures) (c .starts .ensures)
 
 pub +starts-spec : {M : Type 1} → statement M
-+starts-spec = close μ-starts λ t. starts-lts.spec (
-  behind-reads.Asked,
-  behind-reads.Learnt,
-  starts-below t,
-  starts.Post,
-)
++starts-spec = close μ-starts λ t. starts-lts.spec (calls t)
     (starts-at t)
     starts.Post
     (starts-returns t)
