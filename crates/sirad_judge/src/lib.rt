@@ -16,7 +16,7 @@ use sirad_pieces::NO_DIGIT;
 use sirad_pieces::block_at;
 use sirad_pieces::byte_of;
 use sirad_pieces::chars;
-use sirad_pieces::run_of;
+use sirad_pieces::hexes;
 
 // The byte that starts every frame and stands nowhere else in one.
 pub const START_MARKER: u8 = b'!';
@@ -164,7 +164,7 @@ fn status_update(s: &[u8], at: usize) -> Judgement
     let Judgement::Whole(_, i) = a else {
         return a;
     };
-    let b = run_of(s, i, STATUS_DIGITS, Class::Hex);
+    let b = hexes(s, i, STATUS_DIGITS);
     let Judgement::Whole(_, j) = b else {
         return b;
     };
@@ -174,7 +174,7 @@ fn status_update(s: &[u8], at: usize) -> Judgement
 fn error_flags(s: &[u8], at: usize) -> Judgement
     ensures { λ r. ⌜ r ≡ judgeAt (row ePieces 6) at (now (s .entry)) ⌝ }
 {
-    let a = run_of(s, at, FLAG_DIGITS, Class::Hex);
+    let a = hexes(s, at, FLAG_DIGITS);
     let Judgement::Whole(_, i) = a else {
         return a;
     };

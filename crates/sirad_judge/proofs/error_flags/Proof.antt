@@ -6,14 +6,14 @@ use Rattle.sirad.proofs.Laws.{error-form}
 use Rattle.sirad_judge.proofs.error_flags.Statement.{statement}
 use Rattle.sirad_judge.proofs.error_flags.Tie as tie
 
-run-of-requires : tie.Need-run-of-requires
-run-of-requires c κs = search needs
+hexes-requires : tie.Need-hexes-requires
+hexes-requires c κs = search needs
 
 enum-known-a : tie.Need-enum-known-a
 enum-known-a c = search needs
 
 returns : tie.Need-returns
-returns c = halt _ _ _ _ (c .before .run-of .ensures) (c .match .keys2)
+returns c = halt _ _ _ _ (c .before .hexes .ensures) (c .match .keys2)
     ∙ sym (error-form _ _)
 
 stop-requires : tie.Need-stop-requires
@@ -22,7 +22,7 @@ stop-requires c κs = search needs
 returns-2 : tie.Need-returns-2
 returns-2 c =
     let a = c .before .before in let r = a .before .before in
-    c .stop .ensures ∙ sym (go-on _ _ _ _ (r .run-of .ensures) (a .a .given .1)) ∙ sym (error-form _ _)
+    c .stop .ensures ∙ sym (go-on _ _ _ _ (r .hexes .ensures) (a .a .given .1)) ∙ sym (error-form _ _)
 
 pub error-flags-spec : {M : Type 1} → statement M
-error-flags-spec = tie.close (tie.spec run-of-requires enum-known-a returns stop-requires returns-2)
+error-flags-spec = tie.close (tie.spec hexes-requires enum-known-a returns stop-requires returns-2)

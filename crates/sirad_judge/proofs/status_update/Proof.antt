@@ -16,8 +16,8 @@ returns : tie.Need-returns
 returns c = halt _ _ _ _ (c .before .head-at .ensures) (c .match .keys2)
     ∙ sym (status-form _ _)
 
-run-of-requires : tie.Need-run-of-requires
-run-of-requires c κs = search needs
+hexes-requires : tie.Need-hexes-requires
+hexes-requires c κs = search needs
 
 enum-known-b : tie.Need-enum-known-b
 enum-known-b c = search needs
@@ -25,7 +25,7 @@ enum-known-b c = search needs
 returns-2 : tie.Need-returns-2
 returns-2 c =
     let r = c .before in let a = r .before .before in let h = a .before .before in
-    halt _ _ _ _ (r .run-of .ensures) (c .match2 .keys2)
+    halt _ _ _ _ (r .hexes .ensures) (c .match2 .keys2)
     ∙ sym (go-on _ _ _ _ (h .head-at .ensures) (a .a .given .1))
     ∙ sym (status-form _ _)
 
@@ -37,7 +37,7 @@ returns-3 c =
     let b = c .before .before in let r = b .before .before in let a = r .before .before in
     let h = a .before .before in
     c .stop .ensures
-    ∙ sym (go-on _ _ _ _ (r .run-of .ensures) (b .b .given .1))
+    ∙ sym (go-on _ _ _ _ (r .hexes .ensures) (b .b .given .1))
     ∙ sym (go-on _ _ _ _ (h .head-at .ensures) (a .a .given .1))
     ∙ sym (status-form _ _)
 
@@ -48,7 +48,7 @@ status-update-spec =
     head-at-requires
     enum-known-a
     returns
-    run-of-requires
+    hexes-requires
     enum-known-b
     returns-2
     stop-requires

@@ -21,8 +21,8 @@ loop-holds c = refl
 step-of-requires : tie.Need-step-of-requires Inv-loop μ-loop
 step-of-requires c κs = search needs
 
-run-of-requires : tie.Need-run-of-requires Inv-loop μ-loop
-run-of-requires c κs = search needs
+few-chars-requires : tie.Need-few-chars-requires Inv-loop μ-loop
+few-chars-requires c κs = search needs
 
 enum-known-a : tie.Need-enum-known-a Inv-loop μ-loop
 enum-known-a c = search needs
@@ -30,7 +30,7 @@ enum-known-a c = search needs
 returns : tie.Need-returns Inv-loop μ-loop
 returns c =
     let r = c .before in let s = r .before in let l = s .before .before in
-    part-halts _ _ _ _ _ (s .step-of .ensures .most) (r .run-of .ensures) (c .match .keys2) ∙ sym (l .loop .inv)
+    part-halts _ _ _ _ _ (s .step-of .ensures .most) (r .few-chars .ensures) (c .match .keys2) ∙ sym (l .loop .inv)
 
 sub-left : tie.Need-sub-left Inv-loop μ-loop
 sub-left c =
@@ -45,7 +45,7 @@ loop-less c =
 loop-again : tie.Need-loop-again Inv-loop μ-loop
 loop-again c =
     let a = c .before in let r = a .before .before in let s = r .before in let l = s .before .before in
-    l .loop .inv ∙ part-next _ _ _ _ _ (s .step-of .ensures .most) (r .run-of .ensures) (a .a .given .1)
+    l .loop .inv ∙ part-next _ _ _ _ _ (s .step-of .ensures .most) (r .few-chars .ensures) (a .a .given .1)
 
 returns-2 : tie.Need-returns-2 Inv-loop μ-loop
 returns-2 c = run-over _ _ _ _ (c .loop-test .left) ∙ sym (c .before .loop .inv)
@@ -58,7 +58,7 @@ chars-spec =
     μ-loop
     loop-holds
     step-of-requires
-    run-of-requires
+    few-chars-requires
     enum-known-a
     returns
     sub-left

@@ -1,8 +1,8 @@
 -- All seen at once, or else byte by byte.
 use borrow.Author.Needs.{needs}
 use mathlib.Core.Path.{sym}
-use Rattle.sirad_pieces.proofs.run_of.Statement.{statement}
-use Rattle.sirad_pieces.proofs.run_of.Tie as tie
+use Rattle.sirad_pieces.proofs.few_chars.Statement.{statement}
+use Rattle.sirad_pieces.proofs.few_chars.Tie as tie
 
 sub-if2 : tie.Need-sub-if2
 sub-if2 c = search needs
@@ -22,5 +22,5 @@ span-requires c κs = search needs
 returns-2 : tie.Need-returns-2
 returns-2 c = search needs
 
-pub run-of-spec : {M : Type 1} → statement M
-run-of-spec = tie.close (tie.spec sub-if2 all-of-requires add-end returns span-requires returns-2)
+pub few-chars-spec : {M : Type 1} → statement M
+few-chars-spec = tie.close (tie.spec sub-if2 all-of-requires add-end returns span-requires returns-2)
