@@ -19,7 +19,7 @@ returns c =
     rw (r .rule .given .1) (exact-length mmWave _ _ _ _ (rw (r .rule .given .1) at (start .pre)))
 
 returns-2 : tie.Need-returns-2
-returns-2 c = search needs
+returns-2 c = c .length-ok .ensures
 
 pub length-passes-spec : {M : Type 1} → statement M
 length-passes-spec = tie.close (tie.spec enum-known-rule length-ok-requires returns returns-2)
