@@ -3,10 +3,10 @@ use mathlib.Core.Path.{_≡_, refl, sym, ap, _∙_}
 use mathlib.Core.List.{List, [], _∷_, _++_}
 use Prim.Native.Nat.{ℕ, suc, _+_, _≤_, _<_}
 use native.Mathlib.Omega.{arith}
-use lib.ListN.{length, drop, getD, set, length-append, drop-of-length-le}
-use Rattle.digits.specs.Stores.{stored}
-use Rattle.digits.proofs.Lists.{drop-one}
-use Rattle.digits.proofs.StoreLaws.{stored-nil, stored-one, length-stored, then}
+use lib.ListN.{length, take, set, length-append}
+use lib.Seq.{length-take-le}
+use Rattle.digits.specs.Stores.{stored, storedWithin}
+use Rattle.digits.proofs.StoreLaws.{stored-one, length-stored, then, within-fits}
 use Rattle.listing.specs.Internal.{Puts}
 
 -- two pieces: the first, then the second behind it
@@ -24,20 +24,13 @@ puts-byte l at b = record { leaves = stored-one l at b; ends = refl }
 pub puts-length : {xs l l′ : List ℕ} {at r : ℕ} → Puts xs l at r l′ → length l′ ≡ length l
 puts-length {xs} {l} {l′} {at} {r} p = ap length (p .leaves) ∙ length-stored l at xs
 
--- -- Bytes one after the other
+-- text that fits is stored
+pub puts-within : {xs l l′ : List ℕ} {at : ℕ} → l′ ≡ storedWithin l at xs → at + length xs ≤ length l → Puts xs l at (at + length xs) l′
+puts-within {xs} {l} {l′} {at} e h = record { leaves = e ∙ within-fits l at xs h; ends = refl }
 
--- the next byte, and then the rest
-pub text-step : (l text : List ℕ) (at i : ℕ) → i < length text
-    → stored (set l (at + i) (getD text i 0)) (at + (i + 1)) (drop (i + 1) text) ≡ stored l (at + i) (drop i text)
-unfolding stored
-text-step l text at i h =
-    let e : at + (i + 1) ≡ suc (at + i) = omega arith in
-    rw (drop-one text i h, e)
-
--- no byte is left
-pub text-over : (l l₀ text : List ℕ) (at i : ℕ) → length text ≤ i → i ≤ length text
-    → stored l (at + i) (drop i text) ≡ stored l₀ at text → Puts text l₀ at (at + i) l
-text-over l l₀ text at i h k e = record {
-  leaves = sym (stored-nil l (at + i)) ∙ rw (drop-of-length-le text h) at e;
-  ends = omega arith;
-}
+-- so are the first n bytes of a block
+pub puts-taken : (block l l′ : List ℕ) (at n : ℕ) → l′ ≡ storedWithin l at (take n block) → n ≤ length block → at + n ≤ length l
+    → Puts (take n block) l at (at + n) l′
+puts-taken block l l′ at n e h k =
+    let s : length (take n block) ≡ n = length-take-le n block h in
+    record { leaves = e ∙ within-fits l at (take n block) (omega arith); ends = ap (λ (m : ℕ). at + m) (sym s) }

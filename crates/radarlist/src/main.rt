@@ -3,5 +3,5 @@ use capture::Dialect;
 
 fn main() {
     let mut block = [0u8; 4096];
-    listing::list_input(b"radarlist", &mut block, Dialect::Sirad);
+    listing_io::list_input(b"radarlist", &mut block, Dialect::Sirad);
 }

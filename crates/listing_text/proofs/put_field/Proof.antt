@@ -1,0 +1,28 @@
+-- `listing_text::put_field` meets its contract: a tab, then the number.
+use native.Mathlib.Omega.{arith}
+use Rattle.listing.proofs.DecimalLaws.{length-decimal}
+use Rattle.listing.proofs.LineLaws.{length-field}
+use Rattle.listing.specs.Lines.{field}
+use Rattle.listing.proofs.PutLaws.{puts-then, puts-length}
+use borrow.Author.Needs.{needs}
+use Rattle.listing_text.proofs.put_field.Statement.{statement}
+use Rattle.listing_text.proofs.put_field.Tie as tie
+
+put-byte-requires : tie.Need-put-byte-requires
+put-byte-requires c κs = omega (arith, length-field (c .before .before .args .v))
+
+put-decimal-requires : tie.Need-put-decimal-requires
+put-decimal-requires c κs =
+    let v = c .before .before .before .before .before .before .args .v in
+    let e = c .before .before .before .put-byte .ensures in
+    omega (arith, length-field v, length-decimal v, e .ends, puts-length e)
+
+same-length : tie.Need-same-length
+same-length c = search needs
+
+returns : tie.Need-returns
+unfolding field
+returns c = puts-then (c .before .before .before .before .before .before .put-byte .ensures) (c .before .before .put-decimal .ensures)
+
+pub put-field-spec : {M : Type 1} → statement M
+put-field-spec = tie.close (tie.spec put-byte-requires put-decimal-requires same-length returns)
