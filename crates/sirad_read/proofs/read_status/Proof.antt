@@ -1,72 +1,33 @@
--- Not judged whole, bytes left, another kind, or the frame taken apart.
-use mathlib.Core.Path.{_∙_}
+-- Another kind is refused; else the frame is taken apart.
+use mathlib.Core.Path.{sym, _∙_}
 use native.Mathlib.Omega.{arith}
-use Rattle.sirad_fields.proofs.ReadingLaws.{halted-kind, other-size, same-size, status-refused, status-length, status-read}
-use borrow.Author.Needs.{needs}
+use Rattle.sirad_fields.proofs.ReadingLaws.{status-refused, status-length, status-read}
 use Rattle.sirad_read.proofs.read_status.Statement.{statement}
 use Rattle.sirad_read.proofs.read_status.Tie as tie
 
-judge-requires : tie.Need-judge-requires
-judge-requires c κs = search needs
-
-enum-known-kind : tie.Need-enum-known-kind
-enum-known-kind c = search needs
+kind-of-requires : tie.Need-kind-of-requires
+kind-of-requires c κs = tt
 
 no-status-requires : tie.Need-no-status-requires
-no-status-requires c κs = search needs
+no-status-requires c κs = tt
 
 returns : tie.Need-returns
 returns c =
-    let judged = c .before .before in
-    let kind = halted-kind _ (judged .judge .ensures .answers) (c .before .match .keys2) in
-    status-refused (judged .before .before .args .frame .now) kind (c .no-status .ensures) (λ e. omega arith)
-
-no-status-requires-2 : tie.Need-no-status-requires-2
-no-status-requires-2 c κs = search needs
-
-returns-2 : tie.Need-returns-2
-returns-2 c =
-    let whole = c .before .before .before in
-    let judged = whole .before .before in
-    let kind = other-size _ (judged .judge .ensures .answers) (whole .kind .given .1) (c .before .if1 .taken) in
-    status-refused (judged .before .before .args .frame .now) kind (c .no-status2 .ensures) (λ e. omega arith)
-
-no-status-requires-3 : tie.Need-no-status-requires-3
-no-status-requires-3 c κs = search needs
-
-returns-3 : tie.Need-returns-3
-returns-3 c =
-    let whole = c .before .before .before .before in
-    let judged = whole .before .before in
-    let kind = same-size _ (judged .judge .ensures .answers) (whole .kind .given .1) (c .before .before .if1 .left) in
-    status-refused (judged .before .before .args .frame .now) kind (c .no-status3 .ensures) (c .before .if2 .taken)
+    let kind = c .before .before in
+    status-refused (kind .before .before .args .frame .now) (sym (kind .kind-of .ensures)) (c .no-status .ensures) (c .before .if1 .taken)
 
 status-frame-requires : tie.Need-status-frame-requires
 status-frame-requires c κs =
-    let whole = c .before .before .before in
-    let judged = whole .before .before in
-    let kind = same-size _ (judged .judge .ensures .answers) (whole .kind .given .1) (c .before .if1 .left) ∙ c .if2 .left in
-    let size = status-length (judged .before .before .args .frame .now) kind in
+    let kind = c .before in
+    let size = status-length (kind .before .before .args .frame .now) (sym (kind .kind-of .ensures) ∙ c .if1 .left) in
     omega arith
 
-returns-4 : tie.Need-returns-4
-returns-4 c =
-    let whole = c .before .before .before .before in
-    let judged = whole .before .before in
-    let kind = same-size _ (judged .judge .ensures .answers) (whole .kind .given .1) (c .before .before .if1 .left) ∙ c .before .if2 .left in
-    status-read (judged .before .before .args .frame .now) kind (c .status-frame .ensures)
+returns-2 : tie.Need-returns-2
+returns-2 c =
+    let kind = c .before .before in
+    status-read (kind .before .before .args .frame .now) (sym (kind .kind-of .ensures) ∙ c .before .if1 .left) (c .status-frame .ensures)
 
 pub read-status-spec : {M : Type 1} → statement M
 read-status-spec =
     tie.close
-    (tie.spec
-    judge-requires
-    enum-known-kind
-    no-status-requires
-    returns
-    no-status-requires-2
-    returns-2
-    no-status-requires-3
-    returns-3
-    status-frame-requires
-    returns-4)
+    (tie.spec kind-of-requires no-status-requires returns status-frame-requires returns-2)
