@@ -1,4 +1,5 @@
--- Hex numbers of any width: both directions, lengths and bounds. But for the laws of `digit_of`, every test on a byte goes through one view of it, `Hexness`.
+-- Hex numbers of any width: both directions, lengths and bounds. But for the laws of `digit_of`, every test on a byte goes through
+-- one view of it, `Hexness`.
 use mathlib.Core.Path.{_≡_, refl, sym, ap, _∙_}
 use mathlib.Core.Bool.{Bool, true, false, _||_}
 use mathlib.Core.List.{List, [], _∷_, _++_, append-nil}
@@ -73,7 +74,8 @@ hexness b = go (decLe 48 b) (decLe b 57) (decLe 65 b) (decLe b 70)
     go (no l) u p q = is-none b (rw (lt-leb 48 b (omega arith))) (rw (lt-leb 65 b (omega arith)))
     go (yes l) (no u) (yes p) (yes q) = let w = high-is b p q in high p q (w .0) (w .1)
     go (yes l) (no u) (no p) q = is-none b (rw (le-leb 48 b l, lt-leb b 57 (omega arith))) (rw (lt-leb 65 b (omega arith)))
-    go (yes l) (no u) (yes p) (no q) = is-none b (rw (le-leb 48 b l, lt-leb b 57 (omega arith))) (rw (le-leb 65 b p, lt-leb b 70 (omega arith)))
+    go (yes l) (no u) (yes p) (no q) =
+        is-none b (rw (le-leb 48 b l, lt-leb b 57 (omega arith))) (rw (le-leb 65 b p, lt-leb b 70 (omega arith)))
 
 -- a digit stands for less than 16
 pub digit-small : (b : ℕ) → digit b < 16
@@ -143,7 +145,9 @@ hex-append (x ∷ xs) ys (h, hs) k = (h, hex-append xs ys hs k)
 pub digits-hex : (n v : ℕ) → AllHex (hexDigits n v)
 unfolding hexDigits AllHex
 digits-hex zero v = tt
-digits-hex (suc n) v = hex-append (hexDigits n (v / 16)) (glyph (v % 16) ∷ []) (digits-hex n (v / 16)) (glyph-hex (v % 16) (omega arith), tt)
+digits-hex (suc n) v =
+    let last = glyph-hex (v % 16) (omega arith) in
+    hex-append (hexDigits n (v / 16)) (glyph (v % 16) ∷ []) (digits-hex n (v / 16)) (last, tt)
 
 -- hex digits are bytes
 pub hex-bytes : (bs : List ℕ) → AllHex bs → Bytes bs

@@ -1,4 +1,5 @@
--- Little-endian numbers of any width: both directions, lengths and bounds. Each law is one induction on the bytes or the width, a Horner step a turn.
+-- Little-endian numbers of any width: both directions, lengths and bounds. Each law is one induction on the bytes or the width, a
+-- Horner step a turn.
 use mathlib.Core.Path.{_≡_, refl, sym, ap, _∙_}
 use mathlib.Core.List.{List, [], _∷_, _++_}
 use Prim.Native.Nat.{ℕ, zero, suc, _+_, _*_, _/_, _%_, _^_, _<_, _≤_}

@@ -26,7 +26,8 @@ module _ (refusal size room : ℕ) where
   refusal-none h k = rw (eq-eqb refusal 0 h, le-leb size room k)
 
 -- a writer of n bytes that found the refusal r
-module _ (refusal : ℕ) (bytes out : List ℕ) (n : ℕ) (size : length bytes ≡ n) {u r : ℕ} (e : u ≡ refusal) (f : r ≡ writerRefusal u n (length out)) where
+module _ (refusal : ℕ) (bytes out : List ℕ) (n : ℕ) (size : length bytes ≡ n) {u r : ℕ} (e : u ≡ refusal)
+    (f : r ≡ writerRefusal u n (length out)) where
   -- nothing refused: the values fit, and there is room
   pub none-refused : r ≡ 0 → (refusal ≡ 0) × (n ≤ length out)
   none-refused z = go (ℕ-discrete u 0) (decLe n (length out))
@@ -37,7 +38,8 @@ module _ (refusal : ℕ) (bytes out : List ℕ) (n : ℕ) (size : length bytes �
       go (no q) l = absurd (q (refusal-given u n (length out) q ∙ sym f ∙ z))
 
   -- all written
-  pub all-written : r ≡ 0 → {after : List ℕ} → after ≡ stored out 0 bytes → Writes refusal bytes out (record { refusal = 0; size = n }) after
+  pub all-written : r ≡ 0 → {after : List ℕ} → after ≡ stored out 0 bytes
+      → Writes refusal bytes out (record { refusal = 0; size = n }) after
   all-written z {after} w = let g = none-refused z in done refusal bytes out after n (g .0) size (g .1) w
 
   -- refused

@@ -103,7 +103,8 @@ then-within l l′ r m at n xs ys room fits size p rest =
     then l l′ r at n xs ys (p ∙ within-fits l at xs (omega arith)) size (rest (omega arith))
 
 -- the last piece
-pub last-within : (l r : List ℕ) (m at : ℕ) (xs : List ℕ) → m ≤ length l → at + length xs ≤ m → r ≡ storedWithin l at xs → r ≡ stored l at xs
+pub last-within : (l r : List ℕ) (m at : ℕ) (xs : List ℕ) → m ≤ length l → at + length xs ≤ m → r ≡ storedWithin l at xs
+    → r ≡ stored l at xs
 last-within l r m at xs room fits p = p ∙ within-fits l at xs (omega arith)
 
 -- -- 32-bit numbers

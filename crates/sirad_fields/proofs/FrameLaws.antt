@@ -1,4 +1,5 @@
--- Bytes judged whole with a kind are `!`, its identifier and bytes that pass its row's classes, and back; with the laws of rows this gives the round trips of every kind.
+-- Bytes judged whole with a kind are `!`, its identifier and bytes that pass its row's classes, and back; with the laws of rows this
+-- gives the round trips of every kind.
 use mathlib.Core.Path.{_≡_, refl, sym, subst, ap, _∙_}
 use mathlib.Core.Bool.{Bool, true, false, cond}
 use mathlib.Core.List.{List, [], _∷_, append-nil}
@@ -40,7 +41,8 @@ pub kind-whole : (k : ℕ) (bs : List ℕ) → 0 < k → frameKind bs ≡ k → 
 unfolding frameKind
 kind-whole k bs p h = go (judge sirad 0 bs) refl
   where
-    found : (j n : ℕ) → judge sirad 0 bs ≡ Whole j n → (t : Bool) → eqb n (length bs) ≡ t → cond t j 0 ≡ k → judge sirad 0 bs ≡ Whole k (length bs)
+    found : (j n : ℕ) → judge sirad 0 bs ≡ Whole j n → (t : Bool) → eqb n (length bs) ≡ t → cond t j 0 ≡ k
+        → judge sirad 0 bs ≡ Whole k (length bs)
     found j n e true t c = e ∙ rw (c, eqb-true n (length bs) t)
     found j n e false t c = absurd (omega arith)
 
@@ -93,7 +95,8 @@ module _ (k n : ℕ) (vs : List ℕ) (some : 1 ≤ k) (most : k ≤ 6) (sizes : 
   pub written-judged : judge sirad 0 (frameOf k n vs) ≡ Whole k (length (frameOf k n vs))
   written-judged =
       let w = written (rowOf k n) vs in
-      let p = subst (λ (ps : List Piece). Passes (classes ps) w) (sym (same-row k (hexValue (take 4 w)) n size-back)) (passes (rowOf k n) vs fits) in
+      let row = sym (same-row k (hexValue (take 4 w)) n size-back) in
+      let p = subst (λ (ps : List Piece). Passes (classes ps) w) row (passes (rowOf k n) vs fits) in
       whole-by-row k (frameOf k n vs) .1 (record { some = some; most = most; start = refl; named = refl; passes = p })
 
   -- and has this kind for the readers

@@ -78,10 +78,15 @@ numbers-targets zero [] h = refl
 numbers-targets zero (a ∷ vs) h = both-ways false h refl
 numbers-targets (suc n) [] h = both-ways false h refl
 numbers-targets (suc n) (a ∷ []) h = both-ways false (and-right (ltb a 16) false h) refl
-numbers-targets (suc n) (a ∷ b ∷ []) h = both-ways false (and-right (ltb b 65536) false (and-right (ltb a 16) (ltb b 65536 && false) h)) refl
+numbers-targets (suc n) (a ∷ b ∷ []) h =
+    let behind = and-right (ltb a 16) (ltb b 65536 && false) h in
+    both-ways false (and-right (ltb b 65536) false behind) refl
 numbers-targets (suc n) (a ∷ b ∷ c ∷ []) h =
-    both-ways false (and-right (isCharacter c) false (and-right (ltb b 65536) (isCharacter c && false) (and-right (ltb a 16) (ltb b 65536 && (isCharacter c && false)) h))) refl
-numbers-targets (suc n) (a ∷ b ∷ c ∷ d ∷ vs) h = let g = block-fits n a b c d vs h in rw (bits-signed d (g .phase), numbers-targets n vs (g .rest))
+    let behind = and-right (ltb a 16) (ltb b 65536 && (isCharacter c && false)) h in
+    both-ways false (and-right (isCharacter c) false (and-right (ltb b 65536) (isCharacter c && false) behind)) refl
+numbers-targets (suc n) (a ∷ b ∷ c ∷ d ∷ vs) h =
+    let g = block-fits n a b c d vs h in
+    rw (bits-signed d (g .phase), numbers-targets n vs (g .rest))
 
 -- the targets of their own numbers are themselves
 pub targets-numbers : (n : ℕ) (ts : List Target) → Phases ts → fit (blocks n) (blockNumbers ts) ≡ true → targetsOf n (blockNumbers ts) ≡ ts

@@ -1,4 +1,4 @@
--- `digits::between` meets its contract. Both tests decide the Bool.
+-- Both tests decide the Bool.
 use borrow.Author.Tests.{le-leb, lt-leb}
 use borrow.Author.Needs.{needs}
 use Rattle.digits.proofs.between.Statement.{statement}

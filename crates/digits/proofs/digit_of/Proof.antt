@@ -1,4 +1,4 @@
--- `digits::digit_of` meets its contract. Each return is one law: a figure, a letter, no digit.
+-- Each return is one law: a figure, a letter, no digit.
 use mathlib.Core.Path.{sym, _∙_}
 use Prim.Native.Nat.{_≤_}
 use native.Mathlib.Omega.{arith}
@@ -25,10 +25,18 @@ sub-result-2 c =
     omega arith
 
 returns-2 : tie.Need-returns-2
-returns-2 c = digit-letter (c .before .before .before .before .args .b) (sym (c .before .before .before .between .ensures) ∙ c .before .before .if1 .left) (sym (c .before .between2 .ensures) ∙ c .if2 .taken)
+returns-2 c =
+    let letter = c .before in
+    let figure = letter .before .before in
+    let no-figure = sym (figure .between .ensures) ∙ letter .before .if1 .left in
+    digit-letter (figure .before .args .b) no-figure (sym (letter .between2 .ensures) ∙ c .if2 .taken)
 
 returns-3 : tie.Need-returns-3
-returns-3 c = digit-none (c .before .before .before .before .args .b) (sym (c .before .before .before .between .ensures) ∙ c .before .before .if1 .left) (sym (c .before .between2 .ensures) ∙ c .if2 .left)
+returns-3 c =
+    let letter = c .before in
+    let figure = letter .before .before in
+    let no-figure = sym (figure .between .ensures) ∙ letter .before .if1 .left in
+    digit-none (figure .before .args .b) no-figure (sym (letter .between2 .ensures) ∙ c .if2 .left)
 
 pub digit-of-spec : {M : Type 1} → statement M
 digit-of-spec =

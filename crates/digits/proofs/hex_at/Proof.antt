@@ -20,7 +20,10 @@ least-requires-2 : tie.Need-least-requires-2
 least-requires-2 c κs = tt
 
 hex-from-requires : tie.Need-hex-from-requires
-hex-from-requires c κs = (omega (arith, c .before .least .ensures, c .least2 .ensures), omega (arith, c .before .least .ensures, c .least2 .ensures))
+hex-from-requires c κs =
+    let most = c .before .least .ensures in
+    let there = c .least2 .ensures in
+    (omega (arith, most, there), omega (arith, most, there))
 
 returns-2 : tie.Need-returns-2
 returns-2 c =

@@ -60,7 +60,8 @@ loop-again c =
     let a = start .args in
     let d = c .digit-of in
     let small : d .result < 16 = omega (arith, digit-small (getD (a .s .now) (a .at + l .i) 0), d .ensures) in
-    let next = hex-next (a .n) (a .at) (l .i) (l .v) (d .result) (a .s .now) (c .before .before .loop-test .taken) (start .pre .1) (d .ensures) in
+    let more = c .before .before .loop-test .taken in
+    let next = hex-next (a .n) (a .at) (l .i) (l .v) (d .result) (a .s .now) more (start .pre .1) (d .ensures) in
     (omega arith, hex-grows (l .i) (l .v) (d .result) (l .inv .1) small, sym next ∙ l .inv .2)
 
 returns : tie.Need-returns Inv-loop μ-loop

@@ -41,7 +41,8 @@ join-requires c κs = search needs
 
 returns-3 : tie.Need-returns-3
 returns-3 c =
-    let a = c .before .before .before .before .before .before .before .before .args in c .join .ensures ∙ sym (word-joined (a .s .now) (a .at) (omega arith))
+    let a = c .before .before .before .before .before .before .before .before .args in
+    c .join .ensures ∙ sym (word-joined (a .s .now) (a .at) (omega arith))
 
 pub word-at-spec : {M : Type 1} → statement M
 word-at-spec =

@@ -1,4 +1,4 @@
--- `sirad_fields::data_refusal` meets its contract.
+-- Each return is one law: 53 twice, 52, nothing, 50.
 use native.Mathlib.Omega.{arith}
 use Rattle.sirad_fields.proofs.WritingLaws.{kind-low, kind-high, too-many, data-accepted, data-unencoded}
 use borrow.Author.Needs.{needs}
@@ -12,16 +12,24 @@ returns-2 : tie.Need-returns-2
 returns-2 c = let a = c .before .before .before .args in kind-high (a .kind) (a .content .now) (c .if2 .taken)
 
 returns-3 : tie.Need-returns-3
-returns-3 c = let a = c .before .before .before .before .args in too-many (a .kind) (a .content .now) (omega arith) (omega arith) (c .if3 .taken)
+returns-3 c =
+    let a = c .before .before .before .before .args in
+    too-many (a .kind) (a .content .now) (omega arith) (omega arith) (c .if3 .taken)
 
 all-characters-requires : tie.Need-all-characters-requires
 all-characters-requires c κs = search needs
 
 returns-4 : tie.Need-returns-4
-returns-4 c = let a = c .before .before .before .before .before .before .args in data-accepted (a .kind) (a .content .now) (omega arith) (omega arith) (omega arith) (c .before .all-characters .ensures) (c .if4 .taken)
+returns-4 c =
+    let test = c .before in
+    let a = test .before .before .before .before .before .args in
+    data-accepted (a .kind) (a .content .now) (omega arith) (omega arith) (omega arith) (test .all-characters .ensures) (c .if4 .taken)
 
 returns-5 : tie.Need-returns-5
-returns-5 c = let a = c .before .before .before .before .before .before .args in data-unencoded (a .kind) (a .content .now) (omega arith) (omega arith) (omega arith) (c .before .all-characters .ensures) (c .if4 .left)
+returns-5 c =
+    let test = c .before in
+    let a = test .before .before .before .before .before .args in
+    data-unencoded (a .kind) (a .content .now) (omega arith) (omega arith) (omega arith) (test .all-characters .ensures) (c .if4 .left)
 
 pub data-refusal-spec : {M : Type 1} → statement M
 data-refusal-spec =

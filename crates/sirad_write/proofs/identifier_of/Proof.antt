@@ -1,4 +1,4 @@
--- `sirad_fields::identifier_of` meets its contract.
+-- Each arm computes the definition at its kind.
 use borrow.Author.Needs.{needs}
 use borrow.Author.Tests.{ne-eqb}
 use Rattle.sirad_write.proofs.identifier_of.Statement.{statement}

@@ -1,8 +1,4 @@
 -- Start, size, reserved bytes, characters and stop, one behind the other.
-use mathlib.Core.Path.{ap, _∙_}
-use mathlib.Core.List.{[], _∷_}
-use Prim.Native.Nat.{ℕ}
-use Rattle.digits.specs.Stores.{storedWithin}
 use Rattle.sirad_fields.proofs.FrameStores.{data-stored}
 use borrow.Author.Needs.{needs}
 use Rattle.sirad_write.proofs.put_data.Statement.{statement}
@@ -45,10 +41,10 @@ returns c =
     let letter = head .before .before in
     let start = letter .before .before .before in
     let a = start .args in
-    let first = head .put-pair .ensures ∙ ap (λ (b : ℕ). storedWithin (a .out .now) 0 (33 ∷ b ∷ [])) (letter .identifier-of .ensures) in
-    data-stored (a .out .now) (head .put-pair .last .0) (size .put-hex .last .0) (reserved .put-run .last .0) (characters .put-bytes .last .0)
-    (stop .put-pair2 .last .0) (a .kind) (a .content .now) (start .pre .1) first (size .put-hex .ensures) (reserved .put-run .ensures)
-    (characters .put-bytes .ensures) (stop .put-pair2 .ensures)
+    data-stored (a .out .now) (head .put-pair .last .0) (size .put-hex .last .0) (reserved .put-run .last .0)
+    (characters .put-bytes .last .0) (stop .put-pair2 .last .0) (a .kind) (a .content .now) (start .pre .1)
+    (letter .identifier-of .ensures) (head .put-pair .ensures)
+    (size .put-hex .ensures) (reserved .put-run .ensures) (characters .put-bytes .ensures) (stop .put-pair2 .ensures)
 
 pub put-data-spec : {M : Type 1} → statement M
 put-data-spec =

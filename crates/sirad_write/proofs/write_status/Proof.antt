@@ -22,8 +22,10 @@ returns c =
     let a = unfit .before .before .args in
     let vs = statusNumbers (a .format) (a .gain) (a .accuracy) (a .range) (a .ramp) (a .bandwidth) (a .time) in
     let five = status-fit (a .format) (a .gain) (a .accuracy) (a .range) (a .ramp) (a .bandwidth) (a .time) in
-    let values = unfit .status-refusal .ensures ∙ ap unencoded (sym (five (omega arith) (omega arith) (omega arith) (omega arith) (omega arith))) in
-    refused-written (statusRefusal vs) (statusBytes vs) (a .out .now) 26 (status-size vs) values (refusal .refusal-of .ensures) (c .if1 .taken)
+    let fits = five (omega arith) (omega arith) (omega arith) (omega arith) (omega arith) in
+    let values = unfit .status-refusal .ensures ∙ ap unencoded (sym fits) in
+    refused-written (statusRefusal vs) (statusBytes vs) (a .out .now) 26 (status-size vs) values
+    (refusal .refusal-of .ensures) (c .if1 .taken)
 
 put-status-requires : tie.Need-put-status-requires
 put-status-requires c κs =
@@ -32,7 +34,8 @@ put-status-requires c κs =
     let a = unfit .before .before .args in
     let vs = statusNumbers (a .format) (a .gain) (a .accuracy) (a .range) (a .ramp) (a .bandwidth) (a .time) in
     let five = status-fit (a .format) (a .gain) (a .accuracy) (a .range) (a .ramp) (a .bandwidth) (a .time) in
-    let values = unfit .status-refusal .ensures ∙ ap unencoded (sym (five (omega arith) (omega arith) (omega arith) (omega arith) (omega arith))) in
+    let fits = five (omega arith) (omega arith) (omega arith) (omega arith) (omega arith) in
+    let values = unfit .status-refusal .ensures ∙ ap unencoded (sym fits) in
     none-refused (statusRefusal vs) (statusBytes vs) (a .out .now) 26 (status-size vs) values (refusal .refusal-of .ensures)
     (c .before .if1 .left) .1
 
@@ -48,9 +51,10 @@ returns-2 c =
     let a = unfit .before .before .args in
     let vs = statusNumbers (a .format) (a .gain) (a .accuracy) (a .range) (a .ramp) (a .bandwidth) (a .time) in
     let five = status-fit (a .format) (a .gain) (a .accuracy) (a .range) (a .ramp) (a .bandwidth) (a .time) in
-    let values = unfit .status-refusal .ensures ∙ ap unencoded (sym (five (omega arith) (omega arith) (omega arith) (omega arith) (omega arith))) in
-    all-written (statusRefusal vs) (statusBytes vs) (a .out .now) 26 (status-size vs) values (refusal .refusal-of .ensures) (test .if1 .left)
-    (put .put-status .ensures)
+    let fits = five (omega arith) (omega arith) (omega arith) (omega arith) (omega arith) in
+    let values = unfit .status-refusal .ensures ∙ ap unencoded (sym fits) in
+    all-written (statusRefusal vs) (statusBytes vs) (a .out .now) 26 (status-size vs) values
+    (refusal .refusal-of .ensures) (test .if1 .left) (put .put-status .ensures)
 
 pub write-status-spec : {M : Type 1} → statement M
 write-status-spec =
