@@ -179,7 +179,8 @@ fn shown_part(p: Part, line: &[u8]) {
     text(b"\n");
 }
 
-// The open reading of the first k bytes beside that of all, with the checksums of the first rows, and the choice between the two parts as lines.
+// The open reading of the first k bytes beside that of all, with the checksums of the first rows, and the choice between the two parts as
+// lines.
 fn split(dialect: u32, bytes: &[u8], k: usize) {
     if bytes.len() < k {
         return;

@@ -6,12 +6,6 @@ ghost use Prim.Native.Nat.{_+_, _≤_, _<_};
 ghost use lib.ListN.{length};
 ghost use Rattle.capture.specs.Internal.{Again, Clear, Found};
 
-fn both(a: bool, b: bool) -> bool
-    ensures { λ r. ⌜ r ≡ (a && b) ⌝ }
-{
-    a && b
-}
-
 // If true, none of the `n` bytes is the mark. No branch in the loop, so that many bytes are compared at once.
 fn misses(bytes: &[u8], from: usize, n: usize, mark: u8) -> bool
     requires { ⌜ from + n ≤ length (now bytes) ⌝ }
@@ -21,7 +15,7 @@ fn misses(bytes: &[u8], from: usize, n: usize, mark: u8) -> bool
     let mut i: usize = 0;
     while i < n {
         let t = bytes[from + i] != mark;
-        ok = both(ok, t);
+        ok = digits::both(ok, t);
         i = i + 1;
     }
     ok

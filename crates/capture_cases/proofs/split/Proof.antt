@@ -70,7 +70,12 @@ field-requires-3 : tie.Need-field-requires-3
 field-requires-3 c κs = search needs
 
 slice-aggregate-main : tie.Need-slice-aggregate-main
-slice-aggregate-main c = let a = c .before .before .before .before .before .before .before .before .before .before .before .before .before .before .before .before .before .before .before .before .before .before .before .before .before .args in sym (length-take-le (a .k) (a .bytes .now) (omega (arith, c .before .before .before .before .before .before .before .before .before .before .before .before .before .before .before .before .before .before .before .before .before .before .before .if1 .left)))
+slice-aggregate-main c =
+    let middle = c .before .before .before .before .before .before .before .before .before .before .before .before in
+    let at-if1 = middle .before .before .before .before .before .before .before .before .before .before .before in
+    let at-args = at-if1 .before .before in
+    let a = at-args .args in
+    sym (length-take-le (a .k) (a .bytes .now) (omega (arith, at-if1 .if1 .left)))
 
 sub-standby : tie.Need-sub-standby
 sub-standby c = search needs
