@@ -55,7 +55,7 @@ use Rattle.capture.specs.declared.Dialect.{Dialect}
 use Rattle.capture.specs.declared.Dialect.the-variants.{Sirad, Mmwave}
 use Rattle.capture.specs.declared.Verdict.{Verdict}
 use Rattle.capture.specs.declared.Verdict.the-variants.{Refused, Judged}
-use Rattle.capture.proofs.Laws.{unknown-refused, verdict-long, verdict-beyond, verdict-judged}
+use Rattle.capture.proofs.EntryLaws.{unknown-refused, verdict-long, verdict-beyond, verdict-judged}
 use Rattle.capture.proofs.LineLaws.{unknown-part, main-long, standby-long, both-short}
 use Rattle.capture.proofs.Wires.{lawful-of, no-start, dialect-none}
 

@@ -1,4 +1,5 @@
-pub mod Laws
+pub mod ScanLaws
+pub mod EntryLaws
 pub mod Wires
 pub mod Turns
 pub mod LineLaws

@@ -74,11 +74,6 @@ pub padded-sets : (ws : List ℕ) → length ws ≤ 30 → sets (replicate 30 0)
 unfolding padded
 padded-sets ws h = sets-eq ws (replicate 30 0) 0 (omega arith) ∙ rw (zero-add (length ws), drop-replicate (length ws) 30 0)
 
--- there are thirty
-pub length-padded : (ws : List ℕ) → length ws ≤ 30 → length (padded ws) ≡ 30
-unfolding padded
-length-padded ws h = simp (length-append, length-replicate) (omega arith)
-
 -- the counted words are the first
 pub take-padded : (n : ℕ) (ws : List ℕ) → length ws ≡ n → take n (padded ws) ≡ ws
 unfolding padded

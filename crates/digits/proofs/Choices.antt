@@ -42,11 +42,6 @@ pub and-both : (a b : Bool) → a ≡ true → b ≡ true → (a && b) ≡ true
 and-both true b p q = q
 and-both false b p q = p
 
--- a conjunction whose left test fails
-pub and-fails-left : (a b : Bool) → a ≡ false → (a && b) ≡ false
-and-fails-left true b p = both-ways true refl p
-and-fails-left false b p = refl
-
 -- a conjunction whose right test fails
 pub and-fails-right : (a b : Bool) → b ≡ false → (a && b) ≡ false
 and-fails-right true b p = p
@@ -54,24 +49,10 @@ and-fails-right false b p = refl
 
 -- -- Choices by a test
 
--- a test that holds chooses the first
-pub cond-true : {A : Type 0} (t : Bool) (x y : A) → t ≡ true → cond t x y ≡ x
-cond-true true x y h = refl
-cond-true false x y h = both-ways false h refl
-
--- a test that fails chooses the second
-pub cond-false : {A : Type 0} (t : Bool) (x y : A) → t ≡ false → cond t x y ≡ y
-cond-false true x y h = both-ways true refl h
-cond-false false x y h = refl
-
 -- between equals the test does not matter
 pub cond-same : {A : Type 0} (t : Bool) (x : A) → cond t x x ≡ x
 cond-same true x = refl
 cond-same false x = refl
-
--- equal tests and choices give equal results
-pub cond-equal : {A : Type 0} {t t′ : Bool} {x x′ y y′ : A} → t ≡ t′ → x ≡ x′ → y ≡ y′ → cond t x y ≡ cond t′ x′ y′
-cond-equal p q r = λ i. cond (p i) (q i) (r i)
 
 -- a function of a choice is a choice of its values
 pub cond-apply : {A B : Type 0} (f : A → B) (t : Bool) (x y : A) → f (cond t x y) ≡ cond t (f x) (f y)

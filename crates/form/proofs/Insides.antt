@@ -13,7 +13,7 @@ use Rattle.form.specs.declared.Judgement.{Judgement}
 use Rattle.form.specs.declared.Judgement.the-variants.{Whole, Bad, Waiting}
 use Rattle.form.specs.Form.{Form, whole, byte, word, _>>=_, judge, judgeAt, Inside}
 use Rattle.form.specs.Pieces.{any, four, marker, free, frees, Cut}
-use Rattle.form.proofs.Laws.{byte-step, byte-ends, word-step, word-ends}
+use Rattle.form.proofs.PieceLaws.{byte-step, byte-ends, word-step, word-ends}
 use Rattle.form.proofs.Theorems.{not-both}
 
 -- the bytes from an offset on end inside a field of the piece

@@ -1,4 +1,4 @@
-pub mod Laws
+pub mod PieceLaws
 pub mod Theorems
 pub mod Lives
 pub mod Refusals

@@ -10,7 +10,7 @@ use Rattle.digits.specs.Hex.{hexAt}
 use Rattle.form.specs.Form.{judge}
 use Rattle.form.specs.declared.Judgement.{Judgement}
 use Rattle.form.specs.declared.Judgement.the-variants.{Whole, Bad, Waiting}
-use Rattle.form.proofs.Laws.{seq-inverse, marker-inverse}
+use Rattle.form.proofs.PieceLaws.{seq-inverse, marker-inverse}
 use Rattle.form.proofs.Theorems.{whole-read}
 use Rattle.sirad.proofs.TableLaws.{total-least, whole-length}
 use Rattle.mmwave.specs.Packet.{packet, magic}

@@ -12,14 +12,14 @@ use Rattle.form.specs.declared.Judgement.{Judgement}
 use Rattle.form.specs.declared.Judgement.the-variants.{Whole, Bad, Waiting}
 use Rattle.form.specs.Form.{Form, whole, _>>=_, _>>_, judge, judgeAt, Frame}
 use Rattle.form.specs.Pieces.{any, four, marker, free, frees}
-use Rattle.form.proofs.Laws.{seq-inverse, four-inverse, free-inverse, frees-inverse, marker-inverse, go-on, whole-there, four-whole}
-use Rattle.form.proofs.Laws.{free-whole, frees-whole, marker-whole}
+use Rattle.form.proofs.PieceLaws.{seq-inverse, four-inverse, free-inverse, frees-inverse, marker-inverse, go-on, whole-there, four-whole}
+use Rattle.form.proofs.PieceLaws.{free-whole, frees-whole, marker-whole}
 use Rattle.form.proofs.Theorems.{frame-whole, judged-frame}
 use Rattle.mmwave.specs.declared.Rule.{Rule}
 use Rattle.mmwave.specs.Profile.{Profile, legal, typeOk, lengthOk, Fills, Sound}
 use Rattle.mmwave.specs.Packet.{magic, entry, last, records, counted, packet}
 use Rattle.mmwave.specs.Document.{Records, none, more, Laid}
-use Rattle.mmwave.proofs.Laws.{length-both, EntryRead, entry-inverse}
+use Rattle.mmwave.proofs.RecordLaws.{length-both, EntryRead, entry-inverse}
 
 -- -- From the judgement to the bytes
 

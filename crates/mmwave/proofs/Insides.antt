@@ -11,7 +11,7 @@ use Rattle.form.specs.declared.Judgement.{Judgement}
 use Rattle.form.specs.declared.Judgement.the-variants.{Whole, Bad, Waiting}
 use Rattle.form.specs.Form.{Form, whole, _>>=_, _>>_, judge, judgeAt, Inside, Completable}
 use Rattle.form.specs.Pieces.{any, four, marker, free, frees, Cut}
-use Rattle.form.proofs.Laws.{four-inverse, frees-inverse, marker-inverse, four-whole, frees-whole, marker-whole}
+use Rattle.form.proofs.PieceLaws.{four-inverse, frees-inverse, marker-inverse, four-whole, frees-whole, marker-whole}
 use Rattle.form.proofs.Insides.{InsideAt, seq-inside, inside-first, inside-then, four-inside, four-first, frees-inside, frees-first}
 use Rattle.form.proofs.Insides.{free-outside, marker-outside}
 use Rattle.mmwave.specs.declared.Rule.{Rule}
@@ -19,7 +19,7 @@ use Rattle.mmwave.specs.Profile.{Profile, legal, typeOk, lengthOk}
 use Rattle.mmwave.specs.Packet.{magic, entry, last, records, counted, packet}
 use Rattle.mmwave.specs.Document.{HeaderHolds, Reached, first, next, EndsInside, in-version, in-total, in-free, in-objects, in-count}
 use Rattle.mmwave.specs.Document.{in-subframe, in-type, in-length}
-use Rattle.mmwave.proofs.Laws.{EntryRead, entry-inverse}
+use Rattle.mmwave.proofs.RecordLaws.{EntryRead, entry-inverse}
 use Rattle.mmwave.proofs.Document.{entry-whole}
 
 -- -- From the form to the offsets

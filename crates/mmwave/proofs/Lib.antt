@@ -1,4 +1,4 @@
-pub mod Laws
+pub mod RecordLaws
 pub mod Within
 pub mod MmWaveSound
 pub mod Lives

@@ -12,7 +12,7 @@ use Rattle.form.proofs.Lives.{live-four, live-free, live-frees, live-marker}
 use Rattle.mmwave.specs.declared.Rule.{Rule}
 use Rattle.mmwave.specs.Profile.{Profile, legal, typeOk, lengthOk, Fills, Sound}
 use Rattle.mmwave.specs.Packet.{magic, entry, last, records, counted, packet}
-use Rattle.mmwave.proofs.Laws.{type-test, length-both}
+use Rattle.mmwave.proofs.RecordLaws.{type-test, length-both}
 
 -- a payload of m free bytes with the value v, and then what follows
 live-payload : (m v : ℕ) (h : ℕ → Form) → Live (h v) → Live (free m >>= (λ _. whole v) >>= h)

@@ -20,7 +20,7 @@ use Rattle.mmwave.specs.MmWave.{mmWave, totalLegal, payloadRule, perObje
 use Rattle.mmwave.specs.Document.{Records, none, more, Laid}
 use Rattle.mmwave.specs.Paper.{LegalPayload, Smallest, RecordsTo, Packet, Later, nothing, later, CountFits, LengthFits, TypeFits}
 use Rattle.mmwave.specs.Paper.{none as none·paper, more as more·paper}
-use Rattle.mmwave.proofs.Laws.{length-both}
+use Rattle.mmwave.proofs.RecordLaws.{length-both}
 use Rattle.mmwave.proofs.MmWaveSound.{mmWave-sound, total-bounds}
 use Rattle.mmwave.proofs.Document.{frame-exactly-if-laid, records-least}
 

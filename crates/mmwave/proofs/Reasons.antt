@@ -13,7 +13,7 @@ use Rattle.mmwave.specs.declared.Rule.{Rule}
 use Rattle.mmwave.specs.Profile.{Profile, legal, typeOk, lengthOk, Fills}
 use Rattle.mmwave.specs.MmWave.{mmWave, countLegal}
 use Rattle.mmwave.specs.Paper.{LegalPayload, Smallest, Later, nothing, later, CountFits, LengthFits, TypeFits}
-use Rattle.mmwave.proofs.Laws.{length-both}
+use Rattle.mmwave.proofs.RecordLaws.{length-both}
 use Rattle.mmwave.proofs.MmWaveSound.{mmWave-sound, total-bounds}
 use Rattle.mmwave.proofs.Paper.{legal-exactly, smallest-of, smallest-near}
 

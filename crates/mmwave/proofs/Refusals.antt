@@ -12,7 +12,7 @@ use Rattle.form.specs.declared.Judgement.{Judgement}
 use Rattle.form.specs.declared.Judgement.the-variants.{Whole, Bad, Waiting}
 use Rattle.form.specs.Form.{Form, whole, _>>=_, _>>_, judge, judgeAt}
 use Rattle.form.specs.Pieces.{any, four, marker, free, frees, Broken}
-use Rattle.form.proofs.Laws.{four-inverse, frees-inverse, marker-inverse, go-on, four-whole}
+use Rattle.form.proofs.PieceLaws.{four-inverse, frees-inverse, marker-inverse, go-on, four-whole}
 use Rattle.form.proofs.Refusals.{seq-refused, refuses-first, four-refused, four-refuses, free-not-refused, frees-not-refused}
 use Rattle.form.proofs.Refusals.{marker-refused}
 use Rattle.mmwave.specs.declared.Rule.{Rule}
@@ -21,7 +21,7 @@ use Rattle.mmwave.specs.Packet.{magic, entry, last, records, counted, pa
 use Rattle.mmwave.specs.MmWave.{mmWave}
 use Rattle.mmwave.specs.Document.{HeaderHolds, Reached, first, next, Refused, at-magic, at-total, at-count, at-type, at-length}
 use Rattle.mmwave.specs.Paper.{LegalPayload, LengthFits, TypeFits, CountFits}
-use Rattle.mmwave.proofs.Laws.{EntryRead, entry-inverse}
+use Rattle.mmwave.proofs.RecordLaws.{EntryRead, entry-inverse}
 use Rattle.mmwave.proofs.Document.{entry-whole, total-on, count-on, header-on}
 
 -- -- From the checks to the judgement

@@ -14,13 +14,13 @@ use Rattle.form.specs.declared.Judgement.{Judgement}
 use Rattle.form.specs.declared.Judgement.the-variants.{Whole, Bad}
 use Rattle.form.specs.Form.{Form, whole, _>>=_, judge, judgeAt}
 use Rattle.form.specs.Pieces.{any, four, marker, free, frees}
-use Rattle.form.proofs.Laws.{go-on, stop, whole-there, four-whole, four-bad, free-whole, frees-whole, marker-whole, marker-other}
+use Rattle.form.proofs.PieceLaws.{go-on, stop, whole-there, four-whole, four-bad, free-whole, frees-whole, marker-whole, marker-other}
 use Rattle.mmwave.specs.declared.Rule.{Rule}
 use Rattle.mmwave.specs.declared.Rule.the-variants.{Exact}
 use Rattle.mmwave.specs.Profile.{Profile, typeOk, lengthOk}
 use Rattle.mmwave.specs.Packet.{magic, entry, last, records, counted, packet}
 use Rattle.mmwave.specs.Internal.{settled}
-use Rattle.mmwave.proofs.Laws.{type-test, records-none, records-more}
+use Rattle.mmwave.proofs.RecordLaws.{type-test, records-none, records-more}
 
 -- -- The records
 

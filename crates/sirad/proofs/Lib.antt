@@ -1,6 +1,6 @@
 pub mod Runs
 pub mod Numbers
-pub mod Laws
+pub mod FrameLaws
 pub mod RowLaws
 pub mod TableLaws
 pub mod Theorems

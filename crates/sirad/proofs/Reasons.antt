@@ -23,7 +23,7 @@ use Rattle.sirad.specs.Classes.{accepts, reason}
 use Rattle.sirad.specs.Rows.{classes, dataPieces, rPieces, rowOf}
 use Rattle.sirad.specs.Sirad.{lay, row, number, sized, kindOf, body, sirad}
 use Rattle.sirad.specs.Table.{identifier, total, classAt, FirstFails, Refused, no-start, no-identifier, no-member}
-use Rattle.sirad.proofs.Laws.{judge-none, judge-no-start, judge-start, judge-body, judge-unknown}
+use Rattle.sirad.proofs.FrameLaws.{judge-none, judge-no-start, judge-start, judge-body, judge-unknown}
 use Rattle.sirad.proofs.RowLaws.{not-identifier, identify, unknown, named-there}
 use Rattle.sirad.proofs.TableLaws.{column, Shape, shape}
 

@@ -10,7 +10,7 @@ use Rattle.form.specs.declared.Judgement.{Judgement}
 use Rattle.form.specs.declared.Judgement.the-variants.{Whole, Bad, Waiting}
 use Rattle.form.specs.Form.{Form, whole, byte, _>>=_, judge, judgeAt}
 use Rattle.form.specs.Pieces.{one}
-use Rattle.form.proofs.Laws.{byte-step, byte-ends, go-on, halt, Halted}
+use Rattle.form.proofs.PieceLaws.{byte-step, byte-ends, go-on, halt, Halted}
 use Rattle.sirad.specs.declared.Class.{Class}
 use Rattle.sirad.specs.Classes.{accepts, reason}
 use Rattle.sirad.specs.Sirad.{run}
@@ -30,11 +30,6 @@ module _ (r : ℕ) (t : ℕ → Bool) (at : ℕ) (s : List ℕ) where
   -- the byte is refused
   pub one-miss : at < length s → t (getD s at 0) ≡ false → Bad r ≡ judgeAt (one r t) at s
   one-miss l h = sym (byte-step r t whole at s l ∙ rw h)
-
--- nothing is left but the value
-pub whole-here : (v at : ℕ) (s : List ℕ) → Whole v at ≡ judgeAt (whole v) at s
-unfolding judge
-whole-here v at s = refl
 
 -- -- Runs
 

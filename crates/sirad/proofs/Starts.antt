@@ -20,7 +20,7 @@ use Rattle.sirad.specs.declared.Kind.the-variants.{Sized, Targets, Statu
 use Rattle.sirad.specs.Classes.{accepts}
 use Rattle.sirad.specs.Rows.{classes, dataPieces, tPieces, uPieces, ePieces}
 use Rattle.sirad.specs.Sirad.{lay, row, number, kindOf, known, body, sirad}
-use Rattle.sirad.proofs.Laws.{judge-no-start}
+use Rattle.sirad.proofs.FrameLaws.{judge-no-start}
 
 -- -- Forms that refuse a start marker
 

@@ -1,7 +1,7 @@
 -- `capture_judge::judge_at` meets its contract.
 use mathlib.Core.Path.{sym, _∙_}
 use borrow.Author.Needs.{needs}
-use Rattle.capture.proofs.Laws.{judges-at, unknown-refused}
+use Rattle.capture.proofs.EntryLaws.{judges-at, unknown-refused}
 use Rattle.capture_judge.proofs.judge_at.Statement.{statement}
 use Rattle.capture_judge.proofs.judge_at.Tie as tie
 

@@ -1,6 +1,6 @@
 -- `capture_judge::judge_known` meets its contract.
 use borrow.Author.Needs.{needs}
-use Rattle.capture.proofs.Laws.{verdict-long, verdict-beyond, verdict-judged}
+use Rattle.capture.proofs.EntryLaws.{verdict-long, verdict-beyond, verdict-judged}
 use Rattle.capture_judge.proofs.judge_known.Statement.{statement}
 use Rattle.capture_judge.proofs.judge_known.Tie as tie
 

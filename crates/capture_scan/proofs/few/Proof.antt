@@ -4,7 +4,7 @@ use native.Mathlib.Omega.{arith}
 use Prim.Native.Nat.{_≤_, _-_}
 use lib.ListN.{length}
 use Rattle.capture.specs.Internal.{Clear}
-use Rattle.capture.proofs.Laws.{clear-none, clear-join, clear-one}
+use Rattle.capture.proofs.ScanLaws.{clear-none, clear-join, clear-one}
 use Rattle.capture_scan.proofs.few.Statement.{statement}
 use Rattle.capture_scan.proofs.few.Tie as tie
 

@@ -4,7 +4,7 @@ use native.Mathlib.Omega.{arith}
 use Prim.Native.Nat.{_≤_, _-_}
 use lib.ListN.{length}
 use Rattle.capture.specs.Internal.{Clear}
-use Rattle.capture.proofs.Laws.{clear-join, found-none, found-at}
+use Rattle.capture.proofs.ScanLaws.{clear-join, found-none, found-at}
 use Rattle.capture_scan.proofs.find.Statement.{statement}
 use Rattle.capture_scan.proofs.find.Tie as tie
 

@@ -5,7 +5,7 @@ use borrow.Author.Needs.{needs}
 use native.Mathlib.Omega.{arith}
 use native.Mathlib.Nat.{add-zero}
 use mathlib.Core.Bool.{true}
-use Rattle.capture.proofs.Laws.{misses-next, clear-none}
+use Rattle.capture.proofs.ScanLaws.{misses-next, clear-none}
 use Rattle.capture.specs.Internal.{Clear}
 use Rattle.capture_scan.proofs.misses.Statement.{statement}
 use Rattle.capture_scan.proofs.misses.Tie as tie

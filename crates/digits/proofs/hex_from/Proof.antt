@@ -6,8 +6,8 @@ use borrow.Author.Needs.{needs}
 use lib.Dec.{lit<}
 use lib.ListN.{take, drop, getD}
 use Rattle.digits.specs.Hex.{hexFrom, hexAt}
-use Rattle.digits.proofs.HexLaws.{digit-small}
-use Rattle.digits.proofs.HexSteps.{hex-room, hex-grows, hex-start, hex-next, hex-end}
+use Rattle.digits.proofs.HexLaws.{digit-small, hex-grows}
+use Rattle.digits.proofs.HexSteps.{hex-room, hex-start, hex-next, hex-end}
 use Rattle.digits.proofs.hex_from.Statement.{statement}
 use Rattle.digits.proofs.hex_from.Tie as tie
 

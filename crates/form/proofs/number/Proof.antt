@@ -2,7 +2,7 @@
 use borrow.Author.Needs.{needs}
 use native.Mathlib.Omega.{arith}
 use Rattle.form.specs.Pieces.{any}
-use Rattle.form.proofs.Laws.{judges, four-waits, number-there}
+use Rattle.form.proofs.PieceLaws.{judges, four-waits, number-there}
 use Rattle.form.proofs.number.Statement.{statement}
 use Rattle.form.proofs.number.Tie as tie
 

@@ -1,7 +1,7 @@
 -- No byte at all, the bytes not there yet, or all there.
 use borrow.Author.Needs.{needs}
 use native.Mathlib.Omega.{arith}
-use Rattle.form.proofs.Laws.{judges, free-none, free-waits, free-whole}
+use Rattle.form.proofs.PieceLaws.{judges, free-none, free-waits, free-whole}
 use Rattle.form.proofs.skip.Statement.{statement}
 use Rattle.form.proofs.skip.Tie as tie
 

@@ -1,7 +1,7 @@
 -- n four-byte fields are 4n free bytes.
 use borrow.Author.Needs.{needs}
 use mathlib.Core.Path.{sym, _∙_}
-use Rattle.form.proofs.Laws.{judges, frees-free}
+use Rattle.form.proofs.PieceLaws.{judges, frees-free}
 use Rattle.form.proofs.skip_numbers.Statement.{statement}
 use Rattle.form.proofs.skip_numbers.Tie as tie
 

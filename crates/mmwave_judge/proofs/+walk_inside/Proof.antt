@@ -3,7 +3,7 @@ use borrow.Author.Needs.{needs}
 use mathlib.Core.Path.{_≡_, refl, sym, ap, _∙_}
 use native.Mathlib.Omega.{arith}
 use Rattle.mmwave.specs.MmWave.{mmWave}
-use Rattle.mmwave.proofs.Laws.{passed-fits}
+use Rattle.mmwave.proofs.RecordLaws.{passed-fits}
 use Rattle.mmwave.proofs.MmWaveSound.{mmWave-sound}
 use Rattle.mmwave.proofs.Within.{settled-none, settled-type, settled-length, settled-more, all-of}
 use Prim.Native.Nat.{ℕ, _+_, _-_, _<_}

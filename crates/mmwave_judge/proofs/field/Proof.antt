@@ -1,7 +1,7 @@
 -- The four bytes make the number.
 use mathlib.Core.Path.{_∙_}
 use native.Mathlib.Omega.{arith}
-use Rattle.form.proofs.Laws.{little-there}
+use Rattle.form.proofs.PieceLaws.{little-there}
 use borrow.Author.Needs.{needs}
 use Rattle.mmwave_judge.proofs.field.Statement.{statement}
 use Rattle.mmwave_judge.proofs.field.Tie as tie

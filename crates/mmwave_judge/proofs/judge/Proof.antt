@@ -1,6 +1,6 @@
 -- The header is there or not.
 use borrow.Author.Needs.{needs}
-use Rattle.form.proofs.Laws.{judges}
+use Rattle.form.proofs.PieceLaws.{judges}
 use Rattle.mmwave_judge.proofs.judge.Statement.{statement}
 use Rattle.mmwave_judge.proofs.judge.Tie as tie
 

@@ -1,11 +1,11 @@
 -- The first record, and then the remaining ones, one fewer; a whole record lies in the room.
 use borrow.Author.Needs.{needs}
-use Rattle.form.proofs.Laws.{go-on, halt, judges}
+use Rattle.form.proofs.PieceLaws.{go-on, halt, judges}
 use mathlib.Core.Path.{_≡_, refl, sym, ap, _∙_}
 use native.Mathlib.Omega.{arith}
 use Rattle.form.specs.Form.{Form, judgeAt}
 use Rattle.mmwave.specs.MmWave.{mmWave}
-use Rattle.mmwave.proofs.Laws.{records-none, records-more, entry-fits}
+use Rattle.mmwave.proofs.RecordLaws.{records-none, records-more, entry-fits}
 use Rattle.mmwave.proofs.MmWaveSound.{mmWave-sound}
 use Prim.Native.Nat.{ℕ, _<_}
 use borrow.Fn.Kinds.{In}

@@ -1,11 +1,11 @@
 -- Each field goes on from the end of the one before; a legal record count leaves room for the headers.
 use borrow.Author.Needs.{needs}
 use Rattle.mmwave.specs.MmWave.{mmWave}
-use Rattle.mmwave.proofs.Laws.{count-leaves}
+use Rattle.mmwave.proofs.RecordLaws.{count-leaves}
 use Rattle.mmwave.proofs.MmWaveSound.{mmWave-sound}
 use mathlib.Core.Path.{refl, sym, ap, _∙_}
 use native.Mathlib.Omega.{arith}
-use Rattle.form.proofs.Laws.{go-on, halt}
+use Rattle.form.proofs.PieceLaws.{go-on, halt}
 use Rattle.mmwave.specs.Packet.{counted}
 use Rattle.mmwave_pieces.proofs.behind_total.Statement.{statement}
 use Rattle.mmwave_pieces.proofs.behind_total.Tie as tie

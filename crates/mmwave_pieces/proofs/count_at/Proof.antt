@@ -1,7 +1,7 @@
 -- The free field, and then its test.
 use borrow.Author.Needs.{needs}
 use mathlib.Core.Path.{refl, sym, ap, _∙_}
-use Rattle.form.proofs.Laws.{unread, taken, refused}
+use Rattle.form.proofs.PieceLaws.{unread, taken, refused}
 use Rattle.mmwave_pieces.proofs.count_at.Statement.{statement}
 use Rattle.mmwave_pieces.proofs.count_at.Tie as tie
 

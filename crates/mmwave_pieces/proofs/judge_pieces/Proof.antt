@@ -1,6 +1,6 @@
 -- Each piece goes on from the end of the one before.
 use borrow.Author.Needs.{needs}
-use Rattle.form.proofs.Laws.{go-on, halt, judges}
+use Rattle.form.proofs.PieceLaws.{go-on, halt, judges}
 use mathlib.Core.Path.{refl, sym, ap, _∙_}
 use native.Mathlib.Omega.{arith}
 use Rattle.mmwave.specs.Packet.{packet}

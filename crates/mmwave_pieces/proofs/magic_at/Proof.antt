@@ -6,7 +6,7 @@ use native.Mathlib.Omega.{arith}
 use lib.ListN.{length, drop}
 use Rattle.form.specs.Form.{judgeAt}
 use Rattle.form.specs.Pieces.{marker}
-use Rattle.form.proofs.Laws.{marker-hit, marker-miss, marker-ends, marker-over}
+use Rattle.form.proofs.PieceLaws.{marker-hit, marker-miss, marker-ends, marker-over}
 use Rattle.mmwave.specs.Packet.{magic}
 use Rattle.mmwave_pieces.proofs.magic_at.Statement.{statement}
 use Rattle.mmwave_pieces.proofs.magic_at.Tie as tie

@@ -1,7 +1,7 @@
 -- Free bytes, and then the kind.
 use borrow.Author.Needs.{needs}
 use mathlib.Core.Path.{refl, sym, ap, _∙_}
-use Rattle.form.proofs.Laws.{go-on, halt, whole-there}
+use Rattle.form.proofs.PieceLaws.{go-on, halt, whole-there}
 use Rattle.mmwave.specs.Packet.{last}
 use Rattle.mmwave.specs.MmWave.{mmWave}
 use Rattle.mmwave_pieces.proofs.padding_at.Statement.{statement}

@@ -1,9 +1,9 @@
 -- Type, payload length, payload: each goes on from the end of the one before.
 use borrow.Author.Needs.{needs}
 use mathlib.Core.Path.{refl, sym, ap, _∙_}
-use Rattle.form.proofs.Laws.{go-on, halt, whole-there}
+use Rattle.form.proofs.PieceLaws.{go-on, halt, whole-there}
 use Rattle.mmwave.specs.Packet.{entry}
-use Rattle.mmwave.proofs.Laws.{length-by}
+use Rattle.mmwave.proofs.RecordLaws.{length-by}
 use Rattle.mmwave.specs.MmWave.{mmWave}
 use Rattle.mmwave_pieces.proofs.record_at.Statement.{statement}
 use Rattle.mmwave_pieces.proofs.record_at.Tie as tie

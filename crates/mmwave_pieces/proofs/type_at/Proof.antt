@@ -1,9 +1,9 @@
 -- The free field, and then its test by the rule of the type.
 use borrow.Author.Needs.{needs}
-use Rattle.mmwave.proofs.Laws.{type-test}
+use Rattle.mmwave.proofs.RecordLaws.{type-test}
 use Rattle.mmwave.specs.MmWave.{mmWave}
 use mathlib.Core.Path.{refl, sym, ap, _∙_}
-use Rattle.form.proofs.Laws.{unread, taken, refused}
+use Rattle.form.proofs.PieceLaws.{unread, taken, refused}
 use Rattle.mmwave.specs.Profile.{typeOk}
 use Rattle.mmwave_pieces.proofs.type_at.Statement.{statement}
 use Rattle.mmwave_pieces.proofs.type_at.Tie as tie

@@ -1,6 +1,6 @@
 -- The conjunction, test by test.
 use borrow.Author.Needs.{needs}
-use Rattle.mmwave.proofs.Laws.{length-both, length-not}
+use Rattle.mmwave.proofs.RecordLaws.{length-both, length-not}
 use borrow.Author.Tests.{eq-eqb, ne-eqb, le-leb, lt-leb, lt-ltb, le-ltb}
 use mathlib.Core.Path.{refl, sym, ap, _∙_}
 use Rattle.mmwave.specs.MmWave.{mmWave, payloadFits}

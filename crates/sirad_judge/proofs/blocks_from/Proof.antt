@@ -4,7 +4,7 @@ use mathlib.Core.Path.{_≡_, refl, sym, _∙_}
 use Rattle.form.specs.Form.{judgeAt}
 use Rattle.sirad.specs.Rows.{blocks}
 use Rattle.sirad.specs.Sirad.{row}
-use Rattle.sirad.proofs.Laws.{blocks-next, blocks-halt, blocks-over}
+use Rattle.sirad.proofs.FrameLaws.{blocks-next, blocks-halt, blocks-over}
 use Rattle.sirad_judge.proofs.blocks_from.Statement.{statement}
 use Rattle.sirad_judge.proofs.blocks_from.Tie as tie
 

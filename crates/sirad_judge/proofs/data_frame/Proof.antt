@@ -1,10 +1,10 @@
 -- The size, the run of reserved bytes and data, the stop marker.
 use borrow.Author.Needs.{needs}
 use mathlib.Core.Path.{sym, _∙_}
-use Rattle.form.proofs.Laws.{go-on, halt}
+use Rattle.form.proofs.PieceLaws.{go-on, halt}
 use Rattle.sirad.specs.Rows.{dataPieces}
 use Rattle.sirad.specs.Sirad.{row}
-use Rattle.sirad.proofs.Laws.{data-form}
+use Rattle.sirad.proofs.FrameLaws.{data-form}
 use Rattle.sirad_judge.proofs.data_frame.Statement.{statement}
 use Rattle.sirad_judge.proofs.data_frame.Tie as tie
 

@@ -1,8 +1,8 @@
 -- The digits, the stop marker.
 use borrow.Author.Needs.{needs}
 use mathlib.Core.Path.{sym, _∙_}
-use Rattle.form.proofs.Laws.{go-on, halt}
-use Rattle.sirad.proofs.Laws.{error-form}
+use Rattle.form.proofs.PieceLaws.{go-on, halt}
+use Rattle.sirad.proofs.FrameLaws.{error-form}
 use Rattle.sirad_judge.proofs.error_flags.Statement.{statement}
 use Rattle.sirad_judge.proofs.error_flags.Tie as tie
 

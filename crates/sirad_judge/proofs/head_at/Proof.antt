@@ -1,9 +1,8 @@
 -- A digit, then a character.
 use borrow.Author.Needs.{needs}
 use mathlib.Core.Path.{sym, _∙_}
-use Rattle.form.proofs.Laws.{go-on, halt}
-use Rattle.sirad.proofs.Laws.{head-form}
-use Rattle.sirad.proofs.Runs.{whole-here}
+use Rattle.form.proofs.PieceLaws.{go-on, halt, whole-there}
+use Rattle.sirad.proofs.FrameLaws.{head-form}
 use Rattle.sirad_judge.proofs.head_at.Statement.{statement}
 use Rattle.sirad_judge.proofs.head_at.Tie as tie
 
@@ -33,7 +32,7 @@ returns-2 c =
 returns-3 : tie.Need-returns-3
 returns-3 c =
     let b = c .before in let b2 = b .before .before in let a = b2 .before .before in let o = a .before .before in
-    whole-here _ _ _
+    whole-there _ _ _
     ∙ sym (go-on _ _ _ _ (b2 .byte-of2 .ensures .answers) (b .b .given .1))
     ∙ sym (go-on _ _ _ _ (o .byte-of .ensures .answers) (a .a .given .1))
     ∙ sym (head-form _ _)

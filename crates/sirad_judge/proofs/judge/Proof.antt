@@ -1,9 +1,9 @@
 -- Start marker, identifier, then the body that it announces.
 use borrow.Author.Needs.{needs}
 use mathlib.Core.Path.{refl, sym, _∙_}
-use Rattle.form.proofs.Laws.{judges}
+use Rattle.form.proofs.PieceLaws.{judges}
 use Rattle.sirad.specs.Sirad.{body}
-use Rattle.sirad.proofs.Laws.{judge-none, judge-no-start, judge-start, judge-body, judge-unknown}
+use Rattle.sirad.proofs.FrameLaws.{judge-none, judge-no-start, judge-start, judge-body, judge-unknown}
 use Rattle.sirad_judge.proofs.judge.Statement.{statement}
 use Rattle.sirad_judge.proofs.judge.Tie as tie
 

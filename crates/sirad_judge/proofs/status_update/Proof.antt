@@ -1,8 +1,8 @@
 -- Format and gain, the digits, the stop marker.
 use borrow.Author.Needs.{needs}
 use mathlib.Core.Path.{sym, _∙_}
-use Rattle.form.proofs.Laws.{go-on, halt}
-use Rattle.sirad.proofs.Laws.{status-form}
+use Rattle.form.proofs.PieceLaws.{go-on, halt}
+use Rattle.sirad.proofs.FrameLaws.{status-form}
 use Rattle.sirad_judge.proofs.status_update.Statement.{statement}
 use Rattle.sirad_judge.proofs.status_update.Tie as tie
 

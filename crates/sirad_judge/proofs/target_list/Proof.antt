@@ -1,8 +1,8 @@
 -- Format and gain, the blocks, the stop marker.
 use borrow.Author.Needs.{needs}
 use mathlib.Core.Path.{sym, _∙_}
-use Rattle.form.proofs.Laws.{go-on, halt}
-use Rattle.sirad.proofs.Laws.{targets-form}
+use Rattle.form.proofs.PieceLaws.{go-on, halt}
+use Rattle.sirad.proofs.FrameLaws.{targets-form}
 use Rattle.sirad_judge.proofs.target_list.Statement.{statement}
 use Rattle.sirad_judge.proofs.target_list.Tie as tie
 

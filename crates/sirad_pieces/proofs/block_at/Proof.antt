@@ -1,6 +1,6 @@
 -- All seen at once, or else run by run.
 use borrow.Author.Needs.{needs}
-use Rattle.form.proofs.Laws.{judges}
+use Rattle.form.proofs.PieceLaws.{judges}
 use mathlib.Core.Path.{sym}
 use Rattle.sirad_pieces.proofs.block_at.Statement.{statement}
 use Rattle.sirad_pieces.proofs.block_at.Tie as tie

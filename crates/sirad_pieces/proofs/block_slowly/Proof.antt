@@ -1,8 +1,8 @@
 -- The four runs of a block, one after the other.
 use borrow.Author.Needs.{needs}
 use mathlib.Core.Path.{sym, _∙_}
-use Rattle.form.proofs.Laws.{go-on, halt}
-use Rattle.sirad.proofs.Laws.{block-form}
+use Rattle.form.proofs.PieceLaws.{go-on, halt}
+use Rattle.sirad.proofs.FrameLaws.{block-form}
 use Rattle.sirad_pieces.proofs.block_slowly.Statement.{statement}
 use Rattle.sirad_pieces.proofs.block_slowly.Tie as tie
 

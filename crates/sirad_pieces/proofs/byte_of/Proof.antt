@@ -1,6 +1,6 @@
 -- No byte is there, it passes, or it is refused.
 use borrow.Author.Needs.{needs}
-use Rattle.form.proofs.Laws.{judges}
+use Rattle.form.proofs.PieceLaws.{judges}
 use mathlib.Core.Path.{sym, ap, _∙_}
 use native.Mathlib.Omega.{arith}
 use Rattle.form.specs.declared.Judgement.the-variants.{Bad}

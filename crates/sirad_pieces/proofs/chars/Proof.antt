@@ -1,6 +1,6 @@
 -- What is left of the run is judged as the whole run is; each turn takes a part of it.
 use borrow.Author.Needs.{needs}
-use Rattle.form.proofs.Laws.{judges}
+use Rattle.form.proofs.PieceLaws.{judges}
 use mathlib.Core.Path.{_≡_, refl, sym, _∙_}
 use native.Mathlib.Omega.{arith}
 use Rattle.form.specs.Form.{judgeAt}

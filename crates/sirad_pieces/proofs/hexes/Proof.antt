@@ -1,6 +1,6 @@
 -- All seen at once, or else byte by byte.
 use borrow.Author.Needs.{needs}
-use Rattle.form.proofs.Laws.{judges}
+use Rattle.form.proofs.PieceLaws.{judges}
 use mathlib.Core.Path.{sym}
 use Rattle.sirad_pieces.proofs.hexes.Statement.{statement}
 use Rattle.sirad_pieces.proofs.hexes.Tie as tie

@@ -1,6 +1,6 @@
 -- The four runs of a block, and the flag of all.
 use borrow.Author.Needs.{needs}
-use Rattle.sirad.proofs.Laws.{block-seen}
+use Rattle.sirad.proofs.FrameLaws.{block-seen}
 use Rattle.sirad_pieces.proofs.seen_block.Statement.{statement}
 use Rattle.sirad_pieces.proofs.seen_block.Tie as tie
 

@@ -12,7 +12,7 @@ use Rattle.form.specs.declared.Judgement.{Judgement}
 use Rattle.form.specs.declared.Judgement.the-variants.{Whole, Bad, Waiting}
 use Rattle.form.specs.Form.{Form, whole, byte, _>>=_, judge, judgeAt}
 use Rattle.form.specs.Pieces.{one}
-use Rattle.form.proofs.Laws.{go-on, halt, Halted}
+use Rattle.form.proofs.PieceLaws.{go-on, halt, Halted}
 use Rattle.sirad.specs.declared.Class.the-variants.{Hex, Char, Cr, Lf}
 use Rattle.sirad.specs.declared.Kind.{Kind}
 use Rattle.sirad.specs.declared.Kind.the-variants.{Unknown}

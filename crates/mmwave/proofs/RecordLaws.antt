@@ -11,7 +11,7 @@ use Rattle.form.specs.declared.Judgement.{Judgement}
 use Rattle.form.specs.declared.Judgement.the-variants.{Whole, Bad, Waiting}
 use Rattle.form.specs.Form.{Form, whole, _>>=_, _>>_, judge, judgeAt}
 use Rattle.form.specs.Pieces.{four, free}
-use Rattle.form.proofs.Laws.{seq-inverse, four-inverse, free-inverse}
+use Rattle.form.proofs.PieceLaws.{seq-inverse, four-inverse, free-inverse}
 use Rattle.mmwave.specs.declared.Rule.{Rule}
 use Rattle.mmwave.specs.Profile.{Profile, legal, typeOk, lengthOk, Sound}
 use Rattle.mmwave.specs.Packet.{entry, last, records}
