@@ -1,4 +1,6 @@
 // Reads slices from standard input, each behind its length in four bytes, and prints of each its length and both judgements.
+use case_input::case_at;
+use case_input::case_end;
 use form::Judgement;
 use libc::STDIN_FILENO;
 use libc::STDOUT_FILENO;
@@ -34,26 +36,18 @@ fn judge_one(s: &[u8]) {
     io::write_all(STDOUT_FILENO, b"\n");
 }
 
-fn judge_all(all: &[u8]) {
+fn judge_all(input: &[u8]) {
     let mut at: usize = 0;
-    while at < all.len() {
-        let size = digits::word_at(all, at) as usize;
-        let rest = all.len() - at;
-        if rest < 4 {
-            return;
-        }
-        if rest - 4 < size {
-            return;
-        }
-        let from = at + 4;
-        let end = from + size;
-        judge_one(&all[from..end]);
+    let mut end = case_end(input, at);
+    while at < end {
+        judge_one(case_at(input, at));
         at = end;
+        end = case_end(input, at);
     }
 }
 
 fn main() {
-    let mut all = io::large_buffer();
-    let n = io::read_full(STDIN_FILENO, &mut all);
-    judge_all(&all[..n]);
+    let mut input = io::large_buffer();
+    let n = io::read_full(STDIN_FILENO, &mut input);
+    judge_all(&input[..n]);
 }

@@ -1,6 +1,8 @@
 // Reads slices from standard input, each behind its length in four bytes, and prints what no function of the C face shows: the first
 // step of a reader that holds the bytes, and where the points are. A line has spaces between its fields. (The host's tests ask the C face
 // on the same slices.)
+use case_input::case_at;
+use case_input::case_end;
 use libc::STDIN_FILENO;
 use libc::STDOUT_FILENO;
 use packet::PacketPoints;
@@ -36,26 +38,18 @@ fn read_one(s: &[u8]) {
     io::write_all(STDOUT_FILENO, b"\n");
 }
 
-fn read_all(all: &[u8]) {
+fn read_all(input: &[u8]) {
     let mut at: usize = 0;
-    while at < all.len() {
-        let size = digits::word_at(all, at) as usize;
-        let rest = all.len() - at;
-        if rest < 4 {
-            return;
-        }
-        if rest - 4 < size {
-            return;
-        }
-        let from = at + 4;
-        let end = from + size;
-        read_one(&all[from..end]);
+    let mut end = case_end(input, at);
+    while at < end {
+        read_one(case_at(input, at));
         at = end;
+        end = case_end(input, at);
     }
 }
 
 fn main() {
-    let mut all = io::large_buffer();
-    let n = io::read_full(STDIN_FILENO, &mut all);
-    read_all(&all[..n]);
+    let mut input = io::large_buffer();
+    let n = io::read_full(STDIN_FILENO, &mut input);
+    read_all(&input[..n]);
 }

@@ -1,60 +1,40 @@
--- `judge_cases::judge_all` is safe and ends: the offset stays within the bytes.
+-- `judge_cases::judge_all` is safe and ends: a case ends within the input.
 use Prim.Native.Nat.{_≤_, _-_}
 use lib.ListN.{length}
 use borrow.Author.Needs.{needs}
+use Rattle.case_input.proofs.CaseLaws.{end-within}
 use Rattle.judge_cases.proofs.judge_all.Statement.{statement}
 use Rattle.judge_cases.proofs.judge_all.Tie as tie
 
 abbrev Inv-loop : tie.InvT-loop
-Inv-loop all at₀ at = at ≤ length all
+Inv-loop input at₀ end₀ at end = end ≤ length input
 
 abbrev μ-loop : tie.MeasureT-loop
-μ-loop all at₀ at = length all - at
+μ-loop input at₀ end₀ at end = length input - at
+
+case-end-requires : tie.Need-case-end-requires Inv-loop μ-loop
+case-end-requires c κs = tt
 
 loop-holds : tie.Need-loop-holds Inv-loop μ-loop
-loop-holds c = search needs
+loop-holds c = end-within _ _ _ (c .case-end .ensures)
 
-word-at-requires : tie.Need-word-at-requires Inv-loop μ-loop
-word-at-requires c κs = tt
-
-cast-size : tie.Need-cast-size Inv-loop μ-loop
-cast-size c = search needs
-
-sub-rest : tie.Need-sub-rest Inv-loop μ-loop
-sub-rest c = search needs
-
-returns : tie.Need-returns Inv-loop μ-loop
-returns c = tt
-
-returns-2 : tie.Need-returns-2 Inv-loop μ-loop
-returns-2 c = tt
-
-add-from : tie.Need-add-from Inv-loop μ-loop
-add-from c = search needs
-
-add-end : tie.Need-add-end Inv-loop μ-loop
-add-end c = search needs
-
-sub-judge-one : tie.Need-sub-judge-one Inv-loop μ-loop
-sub-judge-one c = search needs
-
-part-judge-one-start : tie.Need-part-judge-one-start Inv-loop μ-loop
-part-judge-one-start c = search needs
-
-part-judge-one-end : tie.Need-part-judge-one-end Inv-loop μ-loop
-part-judge-one-end c = search needs
+case-at-requires : tie.Need-case-at-requires Inv-loop μ-loop
+case-at-requires c κs = tt
 
 judge-one-requires : tie.Need-judge-one-requires Inv-loop μ-loop
 judge-one-requires c κs = tt
+
+case-end-requires-2 : tie.Need-case-end-requires-2 Inv-loop μ-loop
+case-end-requires-2 c κs = tt
 
 loop-less : tie.Need-loop-less Inv-loop μ-loop
 loop-less c = search needs
 
 loop-again : tie.Need-loop-again Inv-loop μ-loop
-loop-again c = search needs
+loop-again c = end-within _ _ _ (c .case-end2 .ensures)
 
-returns-3 : tie.Need-returns-3 Inv-loop μ-loop
-returns-3 c = tt
+returns : tie.Need-returns Inv-loop μ-loop
+returns c = tt
 
 pub judge-all-spec : {M : Type 1} → statement M
 judge-all-spec =
@@ -62,18 +42,11 @@ judge-all-spec =
     (tie.spec
     Inv-loop
     μ-loop
+    case-end-requires
     loop-holds
-    word-at-requires
-    cast-size
-    sub-rest
-    returns
-    returns-2
-    add-from
-    add-end
-    sub-judge-one
-    part-judge-one-start
-    part-judge-one-end
+    case-at-requires
     judge-one-requires
+    case-end-requires-2
     loop-less
     loop-again
-    returns-3)
+    returns)
