@@ -1,20 +1,18 @@
 -- Each case of the reading. `Framing` is the case distinction of 40 to 43; the laws behind it are what the code's returns are.
-use mathlib.Core.Path.{_≡_, refl, sym, ap, _∙_, subst}
-use mathlib.Core.Bool.{Bool, true, false, cond, not}
-use mathlib.Core.List.{List, [], _∷_, _++_}
-use Prim.Native.Nat.{ℕ, zero, suc, _+_, _-_, _*_, _/_, _%_, _^_, _<_, _≤_}
-use native.Mathlib.Numerals.{add-one}
+use mathlib.Core.Path.{_≡_, sym, ap, _∙_, subst}
+use mathlib.Core.Bool.{Bool}
+use mathlib.Core.List.{List, []}
+use Prim.Native.Nat.{ℕ, suc, _+_, _-_, _*_, _<_, _≤_}
 use native.Mathlib.Decide.{decLe, ℕ-discrete}
 use native.Mathlib.Omega.{arith}
 use borrow.Author.Tests.{lt-ltb, le-ltb, eq-eqb, ne-eqb}
-use lib.ListN.{length, take, drop, set, replicate}
+use lib.ListN.{length, drop, set, replicate}
 use lib.Seq.{sets}
 use Rattle.digits.specs.LittleEndian.{wordAt}
 use Rattle.demorad.specs.Rules.{ruleOf, legality}
 use Rattle.demorad.specs.Reading.{rdOf, restOf, lengthOf, codeOf, headerOf, countOf, wordsOf}
 use Rattle.demorad.specs.Reading.{payloadOf, padded, framing, readRefusal, refusedCommand, command, readCommand}
 use Rattle.demorad.proofs.WordLaws.{words-more, length-words, padded-sets, getD-padded}
-use Rattle.demorad.specs.declared.Command.{Command}
 
 -- -- The framing: 40 to 43
 

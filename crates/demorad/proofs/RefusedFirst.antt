@@ -2,22 +2,22 @@
 -- that holds; every earlier one contradicts a fact of the same case.
 use mathlib.Core.Path.{_≡_, refl, sym, ap, _∙_, subst}
 use mathlib.Core.Bool.{Bool, true, false, cond}
-use mathlib.Core.List.{List, [], _∷_}
+use mathlib.Core.List.{List, []}
 use Prim.Native.Nat.{ℕ, zero, suc, _+_, _-_, _*_, _/_, _%_, _^_, _<_, _≤_}
 use native.Mathlib.Nat.{zero-div}
 use native.Mathlib.Numerals.{add-one}
 use native.Mathlib.Decide.{decLe, ℕ-discrete}
 use native.Mathlib.Omega.{arith}
 use borrow.Author.Tests.{eq-eqb, ne-eqb, le-leb, lt-leb}
-use lib.Dec.{eqb, leb}
+use lib.Dec.{eqb}
 use lib.Pow.{shr-shr, mod-pow-add, field}
-use lib.ListN.{length, getD}
+use lib.ListN.{length}
 use Rattle.digits.specs.Stores.{Writes, writerAnswer}
 use Rattle.digits.specs.declared.Written.{Written}
 use Rattle.digits.proofs.Choices.{both-ways}
-use Rattle.demorad.specs.Rules.{unlisted, rules, lookup, ruleOf, legality}
+use Rattle.demorad.specs.Rules.{rules, lookup, ruleOf, legality}
 use Rattle.demorad.specs.Image.{commandBytes}
-use Rattle.demorad.specs.Reading.{bits, restOf, lengthOf, codeOf, headerOf, countOf, payloadOf, framing, readRefusal, readCommand}
+use Rattle.demorad.specs.Reading.{bits, restOf, lengthOf, codeOf, headerOf, countOf, payloadOf, readRefusal, readCommand}
 use Rattle.demorad.specs.Refusals.{Absent, Listed, First}
 use Rattle.demorad.specs.Refusals.{Illegal, unknown-code, too-few, too-many, over-thirty, wrong-selection}
 use Rattle.demorad.specs.Refusals.{Unreadable, too-short, rest-bit, no-length, wrong-size, illegal-read}

@@ -1,19 +1,18 @@
 -- What the table of rules says of every code, and each case of a command's legality. `Verdict` is the one case distinction that all later
 -- proofs go by.
-use mathlib.Core.Path.{_≡_, refl, sym, ap, _∙_, subst}
-use mathlib.Core.Bool.{Bool, true, false, cond, not, _&&_}
+use mathlib.Core.Path.{_≡_, refl, sym, _∙_, subst}
+use mathlib.Core.Bool.{Bool, true, false, cond}
 use mathlib.Core.List.{List, [], _∷_}
 use mathlib.Core.Logic.{_⊎_, inl, inr}
 use Prim.Native.Nat.{ℕ, _<_, _≤_}
-use native.Mathlib.Decide.{decLe, decLt}
+use native.Mathlib.Decide.{decLe}
 use native.Mathlib.Omega.{arith}
 use borrow.Author.Tests.{le-leb, lt-leb, lt-ltb, le-ltb, eqb-true, eqb-false, ne-eqb}
-use lib.Dec.{eqb, ltb}
+use lib.Dec.{eqb}
 use lib.ListN.{getD, take}
 use lib.Seq.{getD-take}
-use Rattle.digits.specs.Bytes.{within}
 use Rattle.digits.proofs.Choices.{test, both-ways}
-use Rattle.demorad.specs.Rules.{unlisted, rules, lookup, ruleOf, judged, legality, maxPayload}
+use Rattle.demorad.specs.Rules.{unlisted, rules, lookup, ruleOf, judged, legality}
 use Rattle.demorad.specs.Refusals.{Absent, Listed}
 use Rattle.demorad.specs.declared.Rule.{Rule}
 

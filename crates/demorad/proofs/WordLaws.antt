@@ -1,15 +1,14 @@
 -- Words and their bytes: both directions, and the thirty words by value.
-use mathlib.Core.Path.{_≡_, refl, sym, ap, _∙_}
+use mathlib.Core.Path.{_≡_, refl, ap, _∙_}
 use mathlib.Core.List.{List, [], _∷_, _++_}
-use Prim.Native.Nat.{ℕ, zero, suc, _+_, _-_, _*_, _^_, _<_, _≤_}
-use native.Mathlib.Nat.{suc-sub-suc, sub-zero, zero-sub, zero-add, lt-of-lt-of-le, pow-le-pow-right}
+use Prim.Native.Nat.{ℕ, zero, suc, _+_, _-_, _*_, _^_, _≤_}
+use native.Mathlib.Nat.{suc-sub-suc, sub-zero, zero-sub, zero-add}
 use native.Mathlib.Omega.{arith}
-use lib.ListN.{length, take, drop, getD, replicate, length-append, length-replicate, length-drop, length-take, List·getD-append}
-use lib.Seq.{sets, sets-eq, drop-drop, take-add, take-at, drop-at, length-take-le, getD-append-add}
+use lib.ListN.{length, take, drop, getD, replicate, length-append}
+use lib.Seq.{sets, sets-eq, drop-drop, take-at}
 use Rattle.digits.specs.Bytes.{Below, Bytes}
-use Rattle.digits.specs.LittleEndian.{fromLittle, toLittle, wordAt}
-use Rattle.digits.proofs.Lists.{below-take, below-drop}
-use Rattle.digits.proofs.LittleEndianLaws.{from-to-little, to-from-little, length-little, little-bytes, little-below, word-there}
+use Rattle.digits.specs.LittleEndian.{toLittle, wordAt}
+use Rattle.digits.proofs.LittleEndianLaws.{from-to-little, to-from-little, length-little, word-there}
 use Rattle.demorad.specs.Image.{wordBytes}
 use Rattle.demorad.specs.Reading.{wordsOf, padded}
 
@@ -46,16 +45,6 @@ bytes-words (suc n) (a ∷ b ∷ []) h e = absurd (omega arith)
 bytes-words (suc n) (a ∷ b ∷ c ∷ []) h e = absurd (omega arith)
 bytes-words (suc n) (a ∷ b ∷ c ∷ d ∷ bs) (p, (q, (r, (s, hs)))) e =
     rw (to-from-little (a ∷ b ∷ c ∷ d ∷ []) (p, (q, (r, (s, tt)))), bytes-words n bs hs (omega arith))
-
--- words read from bytes are 32-bit numbers
-pub words-below : (n : ℕ) (bs : List ℕ) → Bytes bs → Below (2 ^ 32) (wordsOf n bs)
-unfolding wordsOf Below
-words-below zero bs h = tt
-words-below (suc n) bs h = (
-  let r = little-below (take 4 bs) (below-take (2 ^ 8) 4 bs h) in
-      lt-of-lt-of-le r (pow-le-pow-right {n = 256} (omega arith) {j = 4} (simp length-take (omega arith))),
-  words-below n (drop 4 bs) (below-drop (2 ^ 8) 4 bs h),
-)
 
 -- the next word at an offset
 pub words-more : (n at : ℕ) (bs : List ℕ) → at + 4 ≤ length bs → wordsOf (suc n) (drop at bs) ≡ wordAt bs at ∷ wordsOf n (drop (at + 4) bs)

@@ -1,17 +1,17 @@
 -- The writer's pieces: the header, the payload loop (what is stored, then the words that are left) and the whole command.
-use mathlib.Core.Path.{_≡_, refl, sym, ap, _∙_}
+use mathlib.Core.Path.{_≡_, sym, _∙_}
 use mathlib.Core.Bool.{Bool, true, false}
-use mathlib.Core.List.{List, [], _∷_, _++_}
-use Prim.Native.Nat.{ℕ, zero, suc, _+_, _-_, _*_, _^_, _<_, _≤_}
+use mathlib.Core.List.{List, [], _∷_}
+use Prim.Native.Nat.{ℕ, _+_, _-_, _*_, _<_, _≤_}
 use native.Mathlib.Omega.{arith}
-use lib.ListN.{length, take, drop, getD, length-take, length-drop, drop-of-length-le}
+use lib.ListN.{length, take, drop, getD, length-take, drop-of-length-le}
 use lib.Seq.{length-take-le, getD-take}
 use Rattle.digits.specs.LittleEndian.{toLittle}
 use Rattle.digits.specs.Stores.{stored, wordStored}
 use Rattle.digits.proofs.Lists.{drop-one}
 use Rattle.digits.proofs.LittleEndianLaws.{length-little}
 use Rattle.digits.proofs.StoreLaws.{stored-append, stored-nil, word-fits, then}
-use Rattle.demorad.specs.Image.{flagBit, headerWord, wordBytes, commandBytes}
+use Rattle.demorad.specs.Image.{headerWord, wordBytes, commandBytes}
 use Rattle.demorad.proofs.WordLaws.{length-bytes}
 
 -- -- The header

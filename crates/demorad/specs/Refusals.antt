@@ -1,9 +1,9 @@
 -- The refusals once more, as conditions in paper 01's words, and what "the first whose condition holds" says.
 use mathlib.Core.Path.{_≡_}
-use mathlib.Core.Bool.{Bool, true, false}
+use mathlib.Core.Bool.{Bool, true}
 use mathlib.Core.List.{List, [], _∷_}
 use mathlib.Core.Logic.{_⊎_}
-use Prim.Native.Nat.{ℕ, _+_, _*_, _<_, _≤_}
+use Prim.Native.Nat.{ℕ, _*_, _<_, _≤_}
 use lib.ListN.{length, getD}
 use Rattle.demorad.specs.Rules.{maxPayload, rules}
 use Rattle.demorad.specs.Image.{commandBytes}

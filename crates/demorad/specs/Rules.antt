@@ -1,5 +1,5 @@
 -- The command codes with their rules, and the legality of a command (document 001, section 5; paper 01, "DemoRad").
-use mathlib.Core.Bool.{Bool, true, false, cond, not, _&&_}
+use mathlib.Core.Bool.{true, false, cond, not, _&&_}
 use mathlib.Core.List.{List, [], _∷_}
 use Prim.Native.Nat.{ℕ}
 use lib.Dec.{eqb, ltb}

@@ -1,6 +1,6 @@
 -- Hex numbers of any width: both directions, lengths and bounds. But for the laws of `digit_of`, every test on a byte goes through
 -- one view of it, `Hexness`.
-use mathlib.Core.Path.{_≡_, refl, sym, ap, _∙_}
+use mathlib.Core.Path.{_≡_, refl, sym, _∙_}
 use mathlib.Core.Bool.{Bool, true, false, _||_}
 use mathlib.Core.List.{List, [], _∷_, _++_, append-nil}
 use Prim.Native.Nat.{ℕ, zero, suc, _+_, _-_, _*_, _/_, _%_, _^_, _<_, _≤_}
@@ -12,7 +12,7 @@ use borrow.Author.Tests.{le-leb, lt-leb, leb-true}
 use lib.Dec.{leb}
 use lib.ListN.{length, take, drop, length-take, length-append}
 use lib.Seq.{append-snoc}
-use Rattle.digits.specs.Bytes.{isHex, within, Below, Bytes}
+use Rattle.digits.specs.Bytes.{isHex, within}
 use Rattle.digits.specs.Hex.{digit, glyph, hexFrom, hexValue, hexDigits, hexAt, AllHex}
 use Rattle.digits.proofs.Choices.{and-left}
 
@@ -148,12 +148,6 @@ digits-hex zero v = tt
 digits-hex (suc n) v =
     let last = glyph-hex (v % 16) (omega arith) in
     hex-append (hexDigits n (v / 16)) (glyph (v % 16) ∷ []) (digits-hex n (v / 16)) (last, tt)
-
--- hex digits are bytes
-pub hex-bytes : (bs : List ℕ) → AllHex bs → Bytes bs
-unfolding AllHex Below
-hex-bytes [] h = tt
-hex-bytes (b ∷ bs) (h, hs) = (let r = hex-range b h in omega arith, hex-bytes bs hs)
 
 -- one digit more behind i digits
 pub hex-grows : (i v d : ℕ) → v < 16 ^ i → d < 16 → v * 16 + d < 16 ^ (i + 1)

@@ -1,11 +1,11 @@
 -- Bytes of a list at an offset, and bounds on all numbers of a list.
-use mathlib.Core.Path.{_≡_, refl, sym, ap, _∙_}
-use mathlib.Core.List.{List, [], _∷_, _++_}
+use mathlib.Core.Path.{_≡_}
+use mathlib.Core.List.{List, [], _∷_}
 use Prim.Native.Nat.{ℕ, zero, suc, _+_, _<_, _≤_}
 use native.Mathlib.Numerals.{add-one}
 use native.Mathlib.Omega.{arith}
-use lib.ListN.{length, take, drop, getD, set, replicate}
-use lib.Seq.{drop-cons, sets}
+use lib.ListN.{length, take, drop, getD}
+use lib.Seq.{drop-cons}
 use Rattle.digits.specs.Bytes.{Below}
 
 -- -- The bytes from an offset on
@@ -34,12 +34,6 @@ take-four s at h = rw (drop-four s at h)
 
 -- -- Bounds on all numbers
 
--- both parts below the bound
-pub below-append : (bound : ℕ) (xs ys : List ℕ) → Below bound xs → Below bound ys → Below bound (xs ++ ys)
-unfolding Below
-below-append bound [] ys h k = k
-below-append bound (x ∷ xs) ys (h, hs) k = (h, below-append bound xs ys hs k)
-
 -- the first n
 pub below-take : (bound n : ℕ) (xs : List ℕ) → Below bound xs → Below bound (take n xs)
 unfolding Below
@@ -53,29 +47,3 @@ unfolding Below
 below-drop bound zero xs h = h
 below-drop bound (suc n) [] h = tt
 below-drop bound (suc n) (x ∷ xs) (h, hs) = below-drop bound n xs hs
-
--- the number at any offset, 0 behind the end included
-pub below-at : (bound : ℕ) (xs : List ℕ) (at : ℕ) → 0 < bound → Below bound xs → getD xs at 0 < bound
-unfolding Below
-below-at bound [] at p h = p
-below-at bound (x ∷ xs) zero p (h, hs) = h
-below-at bound (x ∷ xs) (suc at) p (h, hs) = below-at bound xs at p hs
-
--- n times the same number
-pub below-replicate : (bound n v : ℕ) → v < bound → Below bound (replicate n v)
-unfolding Below
-below-replicate bound zero v h = tt
-below-replicate bound (suc n) v h = (h, below-replicate bound n v h)
-
--- one number replaced
-pub below-set : (bound : ℕ) (xs : List ℕ) (at v : ℕ) → v < bound → Below bound xs → Below bound (set xs at v)
-unfolding Below
-below-set bound [] at v p h = tt
-below-set bound (x ∷ xs) zero v p (h, hs) = (p, hs)
-below-set bound (x ∷ xs) (suc at) v p (h, hs) = (h, below-set bound xs at v p hs)
-
--- a row of numbers replaced
-pub below-sets : (bound : ℕ) (xs : List ℕ) (at : ℕ) (vs : List ℕ) → Below bound vs → Below bound xs → Below bound (sets xs at vs)
-unfolding Below
-below-sets bound xs at [] p h = h
-below-sets bound xs at (v ∷ vs) (p, ps) h = below-sets bound (set xs at v) (suc at) vs ps (below-set bound xs at v p h)

@@ -1,13 +1,12 @@
 -- Little-endian numbers of any width: both directions, lengths and bounds. Each law is one induction on the bytes or the width, a
 -- Horner step a turn.
-use mathlib.Core.Path.{_≡_, refl, sym, ap, _∙_}
-use mathlib.Core.List.{List, [], _∷_, _++_}
+use mathlib.Core.Path.{_≡_, refl, ap, _∙_}
+use mathlib.Core.List.{List, [], _∷_}
 use Prim.Native.Nat.{ℕ, zero, suc, _+_, _*_, _/_, _%_, _^_, _<_, _≤_}
-use native.Mathlib.Nat.{pow-succ', pow-le-pow-right, lt-of-lt-of-le, mod-eq-of-lt}
+use native.Mathlib.Nat.{pow-succ', pow-le-pow-right, lt-of-lt-of-le}
 use native.Mathlib.Omega.{arith}
 use borrow.Author.Tests.{le-leb, lt-leb}
 use lib.ListN.{length, take, drop, getD, length-take}
-use lib.Seq.{length-take-le}
 use Rattle.digits.specs.Bytes.{Below, Bytes}
 use Rattle.digits.specs.LittleEndian.{fromLittle, toLittle, littleAt, wordAt}
 use Rattle.digits.proofs.Lists.{below-take, below-drop, take-four}
@@ -19,12 +18,6 @@ pub length-little : (n v : ℕ) → length (toLittle n v) ≡ n
 unfolding toLittle
 length-little zero v = refl
 length-little (suc n) v = ap suc (length-little n (v / 256))
-
--- what is written are bytes
-pub little-bytes : (n v : ℕ) → Bytes (toLittle n v)
-unfolding toLittle Below
-little-bytes zero v = tt
-little-bytes (suc n) v = (omega arith, little-bytes n (v / 256))
 
 -- n bytes give a number below 256 ^ n
 pub little-below : (bs : List ℕ) → Bytes bs → fromLittle bs < 256 ^ length bs

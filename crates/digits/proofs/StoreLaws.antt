@@ -32,13 +32,6 @@ set-behind l at [] j b h = refl
 set-behind l at (x ∷ xs) j b h =
     set-behind (set l at x) (suc at) xs j b (omega arith) ∙ ap (λ (k : List ℕ). sets k (suc at) xs) (set-comm l at j x b (λ e. omega arith))
 
--- a piece behind a piece may come before it
-pub sets-behind : (l : List ℕ) (at : ℕ) (xs : List ℕ) (j : ℕ) (ys : List ℕ) → at + length xs ≤ j
-    → sets (sets l at xs) j ys ≡ sets (sets l j ys) at xs
-sets-behind l at xs j [] h = refl
-sets-behind l at xs j (y ∷ ys) h =
-    ap (λ (k : List ℕ). sets k (suc j) ys) (set-behind l at xs j y h) ∙ sets-behind (set l j y) at xs (suc j) ys (omega arith)
-
 -- -- The same of `stored`
 
 -- no bytes change nothing

@@ -1,6 +1,6 @@
 -- Where bytes end inside a four-byte field, piece by piece: in the first piece, or behind it in what follows.
 use mathlib.Core.Bool.{Bool, true, false, cond}
-use mathlib.Core.Path.{_≡_, refl, sym, ap, _∙_}
+use mathlib.Core.Path.{_≡_, refl, sym, _∙_}
 use mathlib.Core.List.{List, [], _∷_}
 use mathlib.Core.Logic.{_⊎_, inl, inr}
 use Prim.Native.Nat.{ℕ, zero, suc, _+_, _*_, _<_, _≤_}
@@ -8,9 +8,8 @@ use native.Mathlib.Omega.{arith}
 use native.Mathlib.Decide.{decLt, decLe}
 use lib.ListN.{length, drop, getD, length-drop, drop-of-length-le}
 use Rattle.digits.proofs.Lists.{drop-one, drop-four}
-use Rattle.digits.specs.LittleEndian.{fromLittle, littleAt}
-use Rattle.form.specs.declared.Judgement.{Judgement}
-use Rattle.form.specs.declared.Judgement.the-variants.{Whole, Bad, Waiting}
+use Rattle.digits.specs.LittleEndian.{littleAt}
+use Rattle.form.specs.declared.Judgement.the-variants.{Whole, Bad}
 use Rattle.form.specs.Form.{Form, whole, byte, word, _>>=_, judge, judgeAt, Inside}
 use Rattle.form.specs.Pieces.{any, four, marker, free, frees, Cut}
 use Rattle.form.proofs.PieceLaws.{byte-step, byte-ends, word-step, word-ends}

@@ -4,11 +4,10 @@ use mathlib.Core.Path.{_≡_, refl}
 use mathlib.Core.List.{List, [], _∷_}
 use Prim.Native.Nat.{ℕ, zero, suc, _^_, _<_}
 use native.Mathlib.Omega.{arith}
-use lib.Dec.{eqb}
 use borrow.Author.Tests.{eq-eqb}
 use Rattle.digits.specs.Bytes.{Below, Bytes}
 use Rattle.form.specs.Form.{Form, whole, byte, word, _>>=_, Live, Plain, Inside}
-use Rattle.form.specs.Pieces.{any, one, four, marker, free, frees}
+use Rattle.form.specs.Pieces.{four, marker, free, frees}
 
 -- -- Live
 

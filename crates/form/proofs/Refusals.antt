@@ -14,7 +14,7 @@ use Rattle.form.specs.declared.Judgement.{Judgement}
 use Rattle.form.specs.declared.Judgement.the-variants.{Whole, Bad, Waiting}
 use Rattle.form.specs.Form.{Form, whole, _>>=_, judge, judgeAt}
 use Rattle.form.specs.Pieces.{four, marker, free, frees, Broken}
-use Rattle.form.proofs.PieceLaws.{after, seq, word-step, four-waits, free-whole, free-waits, free-none, frees-free}
+use Rattle.form.proofs.PieceLaws.{after, seq, word-step, four-waits, frees-free}
 
 -- -- Two pieces
 

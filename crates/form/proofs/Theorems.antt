@@ -3,7 +3,7 @@ use mathlib.Core.Bool.{Bool, true, false, cond}
 use mathlib.Core.Path.{_≡_, refl, sym, ap, _∙_}
 use mathlib.Core.List.{List, [], _∷_, _++_, append-nil}
 use mathlib.Core.Logic.{_↔_}
-use Prim.Native.Nat.{ℕ, zero, suc, _+_, _*_, _-_, _/_, _%_, _^_, _<_, _≤_}
+use Prim.Native.Nat.{ℕ, zero, suc, _+_, _-_, _/_, _%_, _^_, _<_, _≤_}
 use native.Mathlib.Nat.{zero-add, min-le-left}
 use native.Mathlib.Omega.{arith}
 use lib.ListN.{length, take, drop, take-append-drop, length-take}
@@ -109,10 +109,6 @@ frame-whole p k bs h = ap (judge p 0) (sym (append-nil bs)) ∙ frame-judged p k
 -- a whole frame lies within the bytes
 pub whole-fits : (p : Form) (k n : ℕ) (bs : List ℕ) → judge p 0 bs ≡ Whole k n → n ≤ length bs
 whole-fits p k n bs h = judged-stands p k n bs h .within
-
--- the end of a whole piece lies behind the bytes of its first node
-whole-on : (p : Form) (k at e : ℕ) (xs : List ℕ) → judge p at xs ≡ Whole k e → at ≤ e
-whole-on p k at e xs h = omega (arith, whole-read p k at e xs h .end)
 
 -- a whole frame is not empty
 pub whole-not-empty : (p : Form) (k n : ℕ) (bs : List ℕ) → Begins p → judge p 0 bs ≡ Whole k n → 0 < n

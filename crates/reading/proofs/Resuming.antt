@@ -1,8 +1,8 @@
 -- A reading goes on where it stopped: the rows so far, then the reading of the bytes from its next offset on, shifted by that offset.
 -- Up to the stop both readings go the same way; from there on the second one starts anew.
 use mathlib.Core.Bool.{Bool, true, false}
-use mathlib.Core.Path.{_≡_, refl, sym, ap, subst, _∙_}
-use mathlib.Core.List.{List, [], _∷_, _++_, map, append-nil}
+use mathlib.Core.Path.{_≡_, refl, sym, ap, _∙_}
+use mathlib.Core.List.{List, [], _∷_, _++_, append-nil}
 use Prim.Native.Nat.{ℕ, zero, suc, _+_, _-_, _≤_}
 use native.Mathlib.Nat.{zero-add, add-zero, sub-self, sub-zero}
 use native.Mathlib.Omega.{arith}
@@ -11,8 +11,7 @@ use Rattle.form.specs.declared.Judgement.{Judgement}
 use Rattle.form.specs.declared.Judgement.the-variants.{Whole, Bad, Waiting}
 use Rattle.form.specs.Judging.{Lawful}
 use Rattle.reading.specs.Reading.{Reading, read, reading, stop, skip, found, onPlace, atEnd, stateWaiting, stateFull}
-use Rattle.reading.specs.Resuming.{joined, rowShifted, shifted}
-use Rattle.reading.specs.declared.Row.{Row}
+use Rattle.reading.specs.Resuming.{joined, shifted}
 use Rattle.reading.proofs.CourseLaws.{true-false}
 use Rattle.reading.proofs.Prefix.{bad-waits, whole-waits}
 

@@ -7,7 +7,6 @@ use native.Mathlib.Omega.{arith}
 use lib.Dec.{eqb}
 use lib.ListN.{length, getD, take, drop, take-append-drop}
 use lib.Seq.{getD-take, length-take-le}
-use borrow.Author.Tests.{eqb-true}
 use Rattle.digits.specs.Hex.{digit}
 use Rattle.digits.proofs.Choices.{both-ways}
 use Rattle.form.specs.declared.Judgement.the-variants.{Bad, Waiting}

@@ -2,25 +2,24 @@
 -- is said of those.
 use mathlib.Core.Bool.{true}
 use mathlib.Core.Path.{_≡_, refl}
-use mathlib.Core.List.{List, [], _∷_, _++_}
+use mathlib.Core.List.{List, [], _∷_}
 use mathlib.Core.Logic.{_↔_}
-use Prim.Native.Nat.{ℕ, zero, suc, _+_, _*_, _^_, _<_, _≤_}
+use Prim.Native.Nat.{ℕ, zero, suc, _+_, _*_, _^_, _<_}
 use lib.Dec.{lit<}
-use lib.ListN.{length}
 use Rattle.digits.specs.Bytes.{Bytes}
 use Rattle.digits.specs.Hex.{digit}
-use Rattle.form.specs.declared.Judgement.the-variants.{Whole, Waiting}
-use Rattle.form.specs.Form.{_>>=_, judge, Stands, Completable, Live, Plain, Begins}
+use Rattle.form.specs.declared.Judgement.the-variants.{Waiting}
+use Rattle.form.specs.Form.{_>>=_, judge, Completable, Live, Plain, Begins}
 use Rattle.form.specs.Judging.{Lawful}
 use Rattle.form.proofs.Lives.{live-then, plain-then, plain-outside}
-use Rattle.form.proofs.Theorems.{whole-exactly-if-stands, stands-once, judgement-kept, waits-exactly, empty-waits, whole-fits}
-use Rattle.form.proofs.Theorems.{whole-not-empty, Settled, looks-no-further, lawful}
+use Rattle.form.proofs.Theorems.{waits-exactly}
+use Rattle.form.proofs.Theorems.{lawful}
 use Rattle.sirad.specs.declared.Class.{Class}
 use Rattle.sirad.specs.declared.Class.the-variants.{Hex, Char, Cr, Lf}
 use Rattle.sirad.specs.declared.Kind.{Kind}
 use Rattle.sirad.specs.declared.Kind.the-variants.{Sized, Targets, Status, Flags, Unknown}
 use Rattle.sirad.specs.Classes.{accepts}
-use Rattle.sirad.specs.Rows.{classes, dataPieces, tPieces, uPieces, ePieces, characters}
+use Rattle.sirad.specs.Rows.{classes, dataPieces, tPieces, uPieces, ePieces}
 use Rattle.sirad.specs.Sirad.{lay, row, number, kindOf, body, sirad}
 
 -- -- Live and plain

@@ -32,21 +32,6 @@ unfolding bitsOf signed
 signed-bits (pos n) h = rw (le-leb n 32767 h)
 signed-bits (negsuc n) h = rw (lt-leb (65535 - n) 32767 (omega arith)) (ap negsuc (omega arith))
 
--- a phase has 16 bits
-pub bits-small : (p : ℤ) → isPhase p → bitsOf p < 65536
-unfolding bitsOf
-bits-small (pos n) h = omega arith
-bits-small (negsuc n) h = omega arith
-
--- 16 bits give a phase
-pub signed-phase : (v : ℕ) → v < 65536 → isPhase (signed v)
-unfolding signed
-signed-phase v h = go (decLe v 32767)
-  where
-    go : Dec (v ≤ 32767) → isPhase (signed v)
-    go (yes l) = rw (le-leb v 32767 l) l
-    go (no n) = rw (lt-leb v 32767 (omega arith)) (omega arith)
-
 -- -- The numbers of a list of targets
 
 -- what the numbers of one more block that fit are

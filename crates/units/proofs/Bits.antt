@@ -1,7 +1,7 @@
 -- A float's bits without the sign: they give exponent and fraction, and rise with the magnitude.
 -- 2 ^ -12 m has the bits 39800000, 1000 m has 447A0000 (a significand of 16384000 at scale 136), infinity has 7F800000.
 use mathlib.Core.Path.{_≡_, sym, _∙_}
-use Prim.Native.Nat.{ℕ, _+_, _*_, _/_, _%_, _^_, _<_, _≤_}
+use Prim.Native.Nat.{ℕ, _+_, _*_, _%_, _^_, _<_, _≤_}
 use native.Mathlib.Nat.{mul-le-mul, mul-lt-mul-of-pos-right, mul-le-mul-left, mul-le-mul-right, le-trans, le-of-lt, lt-of-lt-of-le}
 use native.Mathlib.Nat.{lt-of-le-of-lt, mod-lt}
 use native.Mathlib.Omega.{arith}

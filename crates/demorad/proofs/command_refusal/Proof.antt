@@ -1,6 +1,5 @@
 -- Each return is one case of the legality under the rule of the code.
 use mathlib.Core.Path.{ap}
-use Prim.Native.Nat.{ℕ}
 use native.Mathlib.Omega.{arith}
 use borrow.Author.Tests.{not-true, not-false}
 use Rattle.demorad.specs.declared.Rule.{Rule}

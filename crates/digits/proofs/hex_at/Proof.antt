@@ -1,6 +1,6 @@
 -- Each return is one law: no byte is there; those that are there.
 use mathlib.Core.Path.{_∙_, sym}
-use Prim.Native.Nat.{ℕ, min}
+use Prim.Native.Nat.{min}
 use native.Mathlib.Omega.{arith}
 use Rattle.digits.proofs.HexSteps.{hex-missing, hex-counted}
 use borrow.Author.Needs.{needs}

@@ -1,5 +1,4 @@
 -- A hex digit below `A` is a figure, any other a letter.
-use borrow.Author.Needs.{needs}
 use native.Mathlib.Omega.{arith}
 use Rattle.digits.proofs.HexLaws.{hex-range}
 use Rattle.sirad.proofs.Numbers.{digit-figure, digit-letter}

@@ -1,5 +1,4 @@
 -- Each return is one law: the values' own refusal, no room, room.
-use native.Mathlib.Omega.{arith}
 use Rattle.digits.proofs.RefusalLaws.{refusal-given, refusal-short, refusal-none}
 use Rattle.stores.proofs.refusal_of.Statement.{statement}
 use Rattle.stores.proofs.refusal_of.Tie as tie
