@@ -34,11 +34,12 @@ every P code [] u h = u
 every P code (row ∷ rows) u (h, hs) = chosen P (eqb code (row .0)) (row .1) (lookup code rows) h (every P code rows u hs)
 
 -- a selection is one of the first two payload words
-pub index-small : (code : ℕ) → ruleOf code .index < 2
+pub index-small : (code : ℕ) (rule : Rule) → rule ≡ ruleOf code → rule .index < 2
 unfolding ruleOf Every
-index-small code =
-    every (λ r. r .index < 2) code rules (omega arith)
-    (omega arith, (omega arith, (omega arith, (omega arith, (omega arith, (omega arith, (omega arith, tt)))))))
+index-small code rule e =
+    rw e
+    (every (λ r. r .index < 2) code rules (omega arith)
+    (omega arith, (omega arith, (omega arith, (omega arith, (omega arith, (omega arith, (omega arith, tt))))))))
 
 -- a rule that does not select has no selection
 unselected : {A : Type 0} → false ≡ true → A

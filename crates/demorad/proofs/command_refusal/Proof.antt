@@ -1,8 +1,6 @@
 -- Each return is one case of the legality under the rule of the code.
-use mathlib.Core.Path.{ap}
 use native.Mathlib.Omega.{arith}
 use borrow.Author.Tests.{not-true, not-false}
-use Rattle.demorad.specs.declared.Rule.{Rule}
 use Rattle.demorad.proofs.RuleLaws.{by-rule, index-small, judged-unknown, judged-few, judged-many}
 use Rattle.demorad.proofs.RuleLaws.{judged-free, judged-out, judged-in}
 use borrow.Author.Needs.{needs}
@@ -14,82 +12,82 @@ rule-of-requires c κs = search needs
 
 returns : tie.Need-returns
 returns c =
-    let r = c .before in
-    let a = r .before .args in
-    let known = r .rule-of in (
-      by-rule (a .code) (a .count) (a .t3) (known .result) 44 (known .ensures)
-          (judged-unknown (known .result) (a .count) (a .t3) (not-true _ (c .if1 .taken))),
-      search needs,
-    )
+    let known = c .before in
+    let a = known .before .args in
+    let rule = known .rule-of in
+    (by-rule _ _ _ _ _ (rule .ensures) (judged-unknown (rule .result) (a .count) (a .t3) (not-true _ (c .if1 .taken))), search needs)
 
 returns-2 : tie.Need-returns-2
 returns-2 c =
-    let r = c .before .before .before in
-    let a = r .before .args in
-    let known = r .rule-of in (
-      by-rule (a .code) (a .count) (a .t3) (known .result) 45 (known .ensures)
-          (judged-few (known .result) (a .count) (a .t3) (not-false _ (c .before .before .if1 .left)) (c .if2 .taken)),
+    let listed = c .before .before in
+    let known = listed .before in
+    let a = known .before .args in
+    let rule = known .rule-of in (
+      by-rule _ _ _ _ _ (rule .ensures)
+          (judged-few (rule .result) (a .count) (a .t3) (not-false _ (listed .if1 .left)) (c .if2 .taken)),
       search needs,
     )
 
 returns-3 : tie.Need-returns-3
 returns-3 c =
-    let r = c .before .before .before .before .before in
-    let a = r .before .args in
-    let known = r .rule-of in
-    let listed = not-false _ (c .before .before .before .before .if1 .left) in (
-      by-rule (a .code) (a .count) (a .t3) (known .result) 45 (known .ensures)
-          (judged-many (known .result) (a .count) (a .t3) listed (c .if3 .taken)),
+    let enough = c .before .before in
+    let listed = enough .before .before in
+    let known = listed .before in
+    let a = known .before .args in
+    let rule = known .rule-of in (
+      by-rule _ _ _ _ _ (rule .ensures)
+          (judged-many (rule .result) (a .count) (a .t3) (not-false _ (listed .if1 .left)) (c .if3 .taken)),
       search needs,
     )
 
 returns-4 : tie.Need-returns-4
 returns-4 c =
-    let r = c .before .before .before .before .before .before in
-    let a = r .before .args in
-    let known = r .rule-of in
-    let listed = not-false _ (c .before .before .before .before .before .if1 .left) in
+    let enough = c .before .before .before in
+    let listed = enough .before .before in
+    let known = listed .before in
+    let a = known .before .args in
+    let rule = known .rule-of in
     let free = not-true _ (c .if4 .taken) in (
-      by-rule (a .code) (a .count) (a .t3) (known .result) 0 (known .ensures)
-          (judged-free (known .result) (a .count) (a .t3) listed (omega arith) (omega arith) free),
+      by-rule _ _ _ _ _ (rule .ensures)
+          (judged-free (rule .result) (a .count) (a .t3) (not-false _ (listed .if1 .left)) (omega arith) (omega arith) free),
       search needs,
     )
 
 mul-if5 : tie.Need-mul-if5
 mul-if5 c =
-    let r = c .before .before .before .before .before .before in
-    let small = index-small (r .before .args .code) in
-    let same = ap (λ (rule : Rule). rule .index) (r .rule-of .ensures) in
-    omega arith
+    let enough = c .before .before .before in
+    let listed = enough .before .before in
+    omega (arith, index-small _ _ (listed .before .rule-of .ensures))
 
 array-read-if5 : tie.Need-array-read-if5
 array-read-if5 c =
-    let r = c .before .before .before .before .before .before in
-    let small = index-small (r .before .args .code) in
-    let same = ap (λ (rule : Rule). rule .index) (r .rule-of .ensures) in
-    omega arith
+    let enough = c .before .before .before in
+    let listed = enough .before .before in
+    omega (arith, index-small _ _ (listed .before .rule-of .ensures))
 
 returns-5 : tie.Need-returns-5
 returns-5 c =
-    let r = c .before .before .before .before .before .before .before .before in
-    let a = r .before .args in
-    let known = r .rule-of in
-    let listed = not-false _ (c .before .before .before .before .before .before .before .if1 .left) in
-    let selects = not-false _ (c .before .before .if4 .left) in (
-      by-rule (a .code) (a .count) (a .t3) (known .result) 46 (known .ensures)
-          (judged-out (known .result) (a .count) (a .t3) listed (omega arith) (omega arith) selects (c .if5 .taken)),
+    let selects = c .before .before in
+    let enough = selects .before .before .before in
+    let listed = enough .before .before in
+    let known = listed .before in
+    let a = known .before .args in (
+      by-rule _ _ _ _ _ (known .rule-of .ensures)
+          (judged-out (known .rule-of .result) (a .count) (a .t3) (not-false _ (listed .if1 .left)) (omega arith) (omega arith)
+          (not-false _ (selects .if4 .left)) (c .if5 .taken)),
       search needs,
     )
 
 returns-6 : tie.Need-returns-6
 returns-6 c =
-    let r = c .before .before .before .before .before .before .before .before in
-    let a = r .before .args in
-    let known = r .rule-of in
-    let listed = not-false _ (c .before .before .before .before .before .before .before .if1 .left) in
-    let selects = not-false _ (c .before .before .if4 .left) in (
-      by-rule (a .code) (a .count) (a .t3) (known .result) 0 (known .ensures)
-          (judged-in (known .result) (a .count) (a .t3) listed (omega arith) (omega arith) selects (omega arith)),
+    let selects = c .before .before in
+    let enough = selects .before .before .before in
+    let listed = enough .before .before in
+    let known = listed .before in
+    let a = known .before .args in (
+      by-rule _ _ _ _ _ (known .rule-of .ensures)
+          (judged-in (known .rule-of .result) (a .count) (a .t3) (not-false _ (listed .if1 .left)) (omega arith) (omega arith)
+          (not-false _ (selects .if4 .left)) (omega arith)),
       search needs,
     )
 

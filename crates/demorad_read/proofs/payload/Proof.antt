@@ -40,8 +40,9 @@ loop-less c = omega arith
 
 loop-again : tie.Need-loop-again Inv-loop μ-loop
 loop-again c =
-    let a = c .before .before .before .before .args in
-    let l = c .before .before .loop in (
+    let lp = c .before .before in
+    let a = lp .before .before .args in
+    let l = lp .loop in (
       omega arith,
       omega arith,
       payload-turns (a .count) (l .i) (l .at) _ (a .bytes .now) (l .words) _ (omega arith) (omega arith) (c .word-at .ensures) (l .inv .2),
@@ -49,8 +50,9 @@ loop-again c =
 
 returns : tie.Need-returns Inv-loop μ-loop
 returns c =
-    let a = c .before .before .before .args in
-    let l = c .before .loop in
+    let lp = c .before in
+    let a = lp .before .before .args in
+    let l = lp .loop in
     payload-ends (a .count) (l .i) (l .at) (a .bytes .now) (l .words) _ (omega arith) (l .inv .2)
 
 pub payload-spec : {M : Type 1} → statement M

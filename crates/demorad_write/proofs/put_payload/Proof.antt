@@ -41,9 +41,11 @@ loop-less c = omega arith
 
 loop-again : tie.Need-loop-again Inv-loop μ-loop
 loop-again c =
-    let a = c .before .before .before .before .before .before .before .args in
-    let l = c .before .before .before .before .before .loop in
-    let p = c .before .before .put-word in
+    let word = c .before .before in
+    let lp = word .before .before .before in
+    let a = lp .before .before .args in
+    let l = lp .loop in
+    let p = word .put-word in
     let same : length (p .last .0) ≡ length (l .out) =
     ap length (p .ensures) ∙ length-word-stored (l .out) (l .at) (getD (a .t3) (l .i) 0) in (
       omega arith,
@@ -57,8 +59,9 @@ same-length c = let l = c .before .loop in omega arith
 
 returns : tie.Need-returns Inv-loop μ-loop
 returns c =
-    let a = c .before .before .before .args in
-    let l = c .before .loop in
+    let lp = c .before in
+    let a = lp .before .before .args in
+    let l = lp .loop in
     put-ends (a .n) (l .i) (l .at) (a .t3) (l .out) _ (omega arith) (l .inv .3)
 
 pub put-payload-spec : {M : Type 1} → statement M

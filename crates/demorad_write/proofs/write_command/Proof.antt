@@ -15,7 +15,7 @@ command-refusal-requires : tie.Need-command-refusal-requires
 command-refusal-requires c κs = search needs
 
 returns : tie.Need-returns
-returns c = let a = c .before .before .before .args in rw (← c .before .command-refusal .ensures .0) (unfit _ _ _ (c .if1 .taken))
+returns c = rw (← c .before .command-refusal .ensures .0) (unfit _ _ _ (c .if1 .taken))
 
 add-size : tie.Need-add-size
 add-size c = search needs
@@ -25,9 +25,10 @@ mul-size c = search needs
 
 returns-2 : tie.Need-returns-2
 returns-2 c =
-    let l = c .before .before in
+    let test = c .before in
+    let l = test .before in
     let a = l .before .before .args in
-    let ok : legality (a .code) (a .count) (a .words) ≡ 0 = sym (l .command-refusal .ensures .0) ∙ c .before .if1 .left in
+    let ok : legality (a .code) (a .count) (a .words) ≡ 0 = sym (l .command-refusal .ensures .0) ∙ test .if1 .left in
     let legal = is-legal (a .code) (a .count) (a .words) ok in
     let thirty = l .command-refusal .ensures .1 in
     let bytes = commandBytes (a .rd) (a .code) (a .count) (a .words) in
@@ -36,9 +37,10 @@ returns-2 c =
 
 header-word-requires : tie.Need-header-word-requires
 header-word-requires c κs =
-    let l = c .before .before in
+    let test = c .before in
+    let l = test .before in
     let a = l .before .before .args in
-    let ok : legality (a .code) (a .count) (a .words) ≡ 0 = sym (l .command-refusal .ensures .0) ∙ c .before .if1 .left in
+    let ok : legality (a .code) (a .count) (a .words) ≡ 0 = sym (l .command-refusal .ensures .0) ∙ test .if1 .left in
     let legal = is-legal (a .code) (a .count) (a .words) ok in
     (legal .small, legal .few)
 
@@ -47,14 +49,16 @@ put-word-requires c κs = search needs
 
 put-payload-requires : tie.Need-put-payload-requires
 put-payload-requires c κs =
-    let l = c .before .before .before .before .before .before .before .before in
+    let word = c .before .before .before in
+    let header = word .before .before in
+    let test = header .before .before in
+    let l = test .before in
     let a = l .before .before .args in
-    let ok : legality (a .code) (a .count) (a .words) ≡ 0 =
-    sym (l .command-refusal .ensures .0) ∙ c .before .before .before .before .before .before .before .if1 .left in
+    let ok : legality (a .code) (a .count) (a .words) ≡ 0 = sym (l .command-refusal .ensures .0) ∙ test .if1 .left in
     let legal = is-legal (a .code) (a .count) (a .words) ok in
-    let p = c .before .before .before .put-word in
+    let p = word .put-word in
     let same : length (p .last .0) ≡ length (a .out .now) =
-    ap length (p .ensures) ∙ length-word-stored (a .out .now) 0 (c .before .before .before .before .before .header-word .result) in
+    ap length (p .ensures) ∙ length-word-stored (a .out .now) 0 (header .header-word .result) in
     (omega arith, omega arith)
 
 same-length : tie.Need-same-length
@@ -62,19 +66,21 @@ same-length c = search needs
 
 returns-3 : tie.Need-returns-3
 returns-3 c =
-    let l = c .before .before .before .before .before .before .before .before .before .before .before in
+    let payload = c .before .before in
+    let word = payload .before .before .before .before in
+    let header = word .before .before in
+    let test = header .before .before in
+    let l = test .before in
     let a = l .before .before .args in
-    let ok : legality (a .code) (a .count) (a .words) ≡ 0 =
-    sym (l .command-refusal .ensures .0) ∙ c .before .before .before .before .before .before .before .before .before .before .if1 .left in
+    let ok : legality (a .code) (a .count) (a .words) ≡ 0 = sym (l .command-refusal .ensures .0) ∙ test .if1 .left in
     let legal = is-legal (a .code) (a .count) (a .words) ok in
     let thirty = l .command-refusal .ensures .1 in
     let bytes = commandBytes (a .rd) (a .code) (a .count) (a .words) in
     let size = length-command (a .rd) (a .code) (a .count) (a .words) (omega arith) in
-    let h = c .before .before .before .before .before .before .before .before .header-word in
+    let h = header .header-word in
     done _ bytes (a .out .now) _ _ ok size (omega arith)
     (put-command (a .rd) (a .code) (a .count) (h .result) (a .words) (a .out .now) _ _ (omega arith) (h .ensures)
-    (c .before .before .before .before .before .before .put-word .ensures)
-    (c .before .before .put-payload .ensures))
+    (word .put-word .ensures) (payload .put-payload .ensures))
 
 pub write-command-spec : {M : Type 1} → statement M
 write-command-spec =

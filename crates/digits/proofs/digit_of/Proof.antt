@@ -1,6 +1,5 @@
 -- Each return is one law: a figure, a letter, no digit.
 use mathlib.Core.Path.{sym, _∙_}
-use Prim.Native.Nat.{_≤_}
 use native.Mathlib.Omega.{arith}
 use Rattle.digits.proofs.HexLaws.{within-low, digit-figure, digit-letter, digit-none}
 use borrow.Author.Needs.{needs}
@@ -21,8 +20,9 @@ between-requires-2 c κs = search needs
 
 sub-result-2 : tie.Need-sub-result-2
 sub-result-2 c =
-    let h : 65 ≤ c .before .before .before .before .args .b = within-low 65 _ _ (sym (c .before .between2 .ensures) ∙ c .if2 .taken) in
-    omega arith
+    let letter = c .before in
+    let figure = letter .before .before in
+    omega (arith, within-low 65 70 (figure .before .args .b) (sym (letter .between2 .ensures) ∙ c .if2 .taken))
 
 returns-2 : tie.Need-returns-2
 returns-2 c =

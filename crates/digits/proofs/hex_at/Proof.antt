@@ -27,9 +27,10 @@ hex-from-requires c κs =
 
 returns-2 : tie.Need-returns-2
 returns-2 c =
-    let a = c .before .before .before .before .before .args in
-    c .hex-from .ensures
-    ∙ hex-counted (a .n) (a .at) (a .s .now) (c .before .before .least .ensures) (c .before .least2 .ensures)
+    let left = c .before in
+    let most = left .before in
+    let a = most .before .before .before .args in
+    c .hex-from .ensures ∙ hex-counted (a .n) (a .at) (a .s .now) (most .least .ensures) (left .least2 .ensures)
 
 pub hex-at-spec : {M : Type 1} → statement M
 hex-at-spec =

@@ -31,20 +31,23 @@ digit-of-requires c κs = tt
 
 mul-v : tie.Need-mul-v Inv-loop μ-loop
 mul-v c =
-    let l = c .before .before .before .loop in
-    let start = c .before .before .before .before .before in
-    let room = hex-room (l .i) (start .args .n) (l .v) (c .before .before .loop-test .taken) (start .pre .0) (l .inv .1) in
-    omega (arith, room)
+    let turn = c .before .before in
+    let lp = turn .before in
+    let start = lp .before .before in
+    let l = lp .loop in
+    omega (arith, hex-room (l .i) (start .args .n) (l .v) (turn .loop-test .taken) (start .pre .0) (l .inv .1))
 
 cast-v : tie.Need-cast-v Inv-loop μ-loop
 cast-v c = search needs
 
 add-v : tie.Need-add-v Inv-loop μ-loop
 add-v c =
-    let l = c .before .before .before .loop in
-    let start = c .before .before .before .before .before in
+    let turn = c .before .before in
+    let lp = turn .before in
+    let start = lp .before .before in
+    let l = lp .loop in
     let a = start .args in
-    let room = hex-room (l .i) (a .n) (l .v) (c .before .before .loop-test .taken) (start .pre .0) (l .inv .1) in
+    let room = hex-room (l .i) (a .n) (l .v) (turn .loop-test .taken) (start .pre .0) (l .inv .1) in
     omega (arith, room, digit-small (getD (a .s .now) (a .at + l .i) 0), c .digit-of .ensures)
 
 add-i : tie.Need-add-i Inv-loop μ-loop
@@ -55,19 +58,22 @@ loop-less c = omega arith
 
 loop-again : tie.Need-loop-again Inv-loop μ-loop
 loop-again c =
-    let l = c .before .before .before .loop in
-    let start = c .before .before .before .before .before in
+    let turn = c .before .before in
+    let lp = turn .before in
+    let start = lp .before .before in
+    let l = lp .loop in
     let a = start .args in
     let d = c .digit-of in
     let small : d .result < 16 = omega (arith, digit-small (getD (a .s .now) (a .at + l .i) 0), d .ensures) in
-    let more = c .before .before .loop-test .taken in
-    let next = hex-next (a .n) (a .at) (l .i) (l .v) (d .result) (a .s .now) more (start .pre .1) (d .ensures) in
+    let next =
+    hex-next (a .n) (a .at) (l .i) (l .v) (d .result) (a .s .now) (turn .loop-test .taken) (start .pre .1) (d .ensures) in
     (omega arith, hex-grows (l .i) (l .v) (d .result) (l .inv .1) small, sym next ∙ l .inv .2)
 
 returns : tie.Need-returns Inv-loop μ-loop
 returns c =
-    let l = c .before .loop in
-    let a = c .before .before .before .args in
+    let lp = c .before in
+    let l = lp .loop in
+    let a = lp .before .before .args in
     sym (hex-end (a .n) (a .at) (l .i) (l .v) (a .s .now) (c .loop-test .left)) ∙ l .inv .2
 
 pub hex-from-spec : {M : Type 1} → statement M

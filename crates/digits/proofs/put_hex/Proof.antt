@@ -17,13 +17,13 @@ abbrev μ-loop : tie.MeasureT-loop
 μ-loop out₀ at n v rest₀ i₀ out rest i = i
 
 returns : tie.Need-returns Inv-loop μ-loop
-returns c = let a = c .before .before .args in sym (digits-unfit (a .out .now) (a .at) (a .n) (a .v) (omega arith))
+returns c = sym (digits-unfit _ _ _ _ (omega arith))
 
 sub-if2 : tie.Need-sub-if2 Inv-loop μ-loop
 sub-if2 c = omega arith
 
 returns-2 : tie.Need-returns-2 Inv-loop μ-loop
-returns-2 c = let a = c .before .before .before .args in sym (digits-unfit (a .out .now) (a .at) (a .n) (a .v) (omega arith))
+returns-2 c = sym (digits-unfit _ _ _ _ (omega arith))
 
 loop-holds : tie.Need-loop-holds Inv-loop μ-loop
 loop-holds c = (omega arith, refl, refl)
@@ -45,10 +45,12 @@ loop-less c = omega arith
 
 loop-again : tie.Need-loop-again Inv-loop μ-loop
 loop-again c =
-    let l = c .before .before .loop in
-    let a = c .before .before .before .before .before .before .args in
+    let turn = c .before in
+    let lp = turn .before in
+    let a = lp .before .before .before .before .args in
+    let l = lp .loop in
     let g = c .glyph-of in
-    let next = digit-next (l .out) (a .at) (l .i) (l .rest) (g .result) (c .before .loop-test .taken) (g .ensures) in
+    let next = digit-next (l .out) (a .at) (l .i) (l .rest) (g .result) (turn .loop-test .taken) (g .ensures) in
     (omega arith, simp length-set (l .inv .1), sym next ∙ l .inv .2)
 
 same-length : tie.Need-same-length Inv-loop μ-loop
@@ -56,8 +58,9 @@ same-length c = c .before .loop .inv .1
 
 returns-3 : tie.Need-returns-3 Inv-loop μ-loop
 returns-3 c =
-    let l = c .before .loop in
-    let a = c .before .before .before .before .before .args in
+    let lp = c .before in
+    let a = lp .before .before .before .before .args in
+    let l = lp .loop in
     let fits = digits-fit (a .out .now) (a .at) (a .n) (a .v) (omega arith) in
     sym (digit-end (l .out) (a .at) (l .i) (l .rest) (omega arith)) ∙ l .inv .2 ∙ sym fits
 

@@ -7,13 +7,13 @@ use Rattle.digits.proofs.word_at.Statement.{statement}
 use Rattle.digits.proofs.word_at.Tie as tie
 
 returns : tie.Need-returns
-returns c = let a = c .before .before .args in sym (word-missing (a .s .now) (a .at) (omega arith))
+returns c = sym (word-missing _ _ (omega arith))
 
 sub-if2 : tie.Need-sub-if2
 sub-if2 c = search needs
 
 returns-2 : tie.Need-returns-2
-returns-2 c = let a = c .before .before .before .args in sym (word-missing (a .s .now) (a .at) (omega arith))
+returns-2 c = sym (word-missing _ _ (omega arith))
 
 shared-slice-read-join : tie.Need-shared-slice-read-join
 shared-slice-read-join c = search needs
@@ -40,9 +40,7 @@ join-requires : tie.Need-join-requires
 join-requires c κs = search needs
 
 returns-3 : tie.Need-returns-3
-returns-3 c =
-    let a = c .before .before .before .before .before .before .before .before .args in
-    c .join .ensures ∙ sym (word-joined (a .s .now) (a .at) (omega arith))
+returns-3 c = c .join .ensures ∙ sym (word-joined _ _ (omega arith))
 
 pub word-at-spec : {M : Type 1} → statement M
 word-at-spec =

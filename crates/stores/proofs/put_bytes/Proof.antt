@@ -47,9 +47,11 @@ loop-less c = omega arith
 
 loop-again : tie.Need-loop-again Inv-loop μ-loop
 loop-again c =
-    let l = c .before .before .loop in
-    let a = c .before .before .before .before .before .args in
-    let next = store-next (l .out) (a .bytes .now) (a .at) (l .i) _ (c .before .loop-test .taken) refl in
+    let turn = c .before in
+    let lp = turn .before in
+    let a = lp .before .before .before .args in
+    let l = lp .loop in
+    let next = store-next (l .out) (a .bytes .now) (a .at) (l .i) _ (turn .loop-test .taken) refl in
     (omega arith, simp length-set (l .inv .1), sym next ∙ l .inv .2)
 
 same-length : tie.Need-same-length Inv-loop μ-loop
@@ -57,8 +59,9 @@ same-length c = c .before .loop .inv .1
 
 returns-3 : tie.Need-returns-3 Inv-loop μ-loop
 returns-3 c =
-    let l = c .before .loop in
-    let a = c .before .before .before .before .args in
+    let lp = c .before in
+    let a = lp .before .before .before .args in
+    let l = lp .loop in
     let fits = within-fits (a .out .now) (a .at) (a .bytes .now) (omega arith) in
     sym (store-end (l .out) (a .bytes .now) (a .at) (l .i) (c .loop-test .left)) ∙ l .inv .2 ∙ sym fits
 

@@ -43,8 +43,9 @@ loop-less c = omega arith
 
 loop-again : tie.Need-loop-again Inv-loop μ-loop
 loop-again c =
-    let l = c .before .loop in
-    let a = c .before .before .before .before .args in
+    let lp = c .before in
+    let a = lp .before .before .before .args in
+    let l = lp .loop in
     let next = run-next (l .out) (a .at) (a .n) (a .b) (l .i) (c .loop-test .taken) in
     (omega arith, simp length-set (l .inv .1), sym next ∙ l .inv .2)
 
@@ -53,8 +54,9 @@ same-length c = c .before .loop .inv .1
 
 returns-3 : tie.Need-returns-3 Inv-loop μ-loop
 returns-3 c =
-    let l = c .before .loop in
-    let a = c .before .before .before .before .args in
+    let lp = c .before in
+    let a = lp .before .before .before .args in
+    let l = lp .loop in
     let fits = run-fits (a .out .now) (a .at) (a .n) (a .b) (omega arith) in
     sym (run-end (l .out) (a .at) (a .n) (a .b) (l .i) (c .loop-test .left)) ∙ l .inv .2 ∙ sym fits
 
