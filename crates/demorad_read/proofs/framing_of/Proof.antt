@@ -6,7 +6,7 @@ use Rattle.demorad_read.proofs.framing_of.Statement.{statement}
 use Rattle.demorad_read.proofs.framing_of.Tie as tie
 
 returns : tie.Need-returns
-returns c = let a = c .before .before .args in framing-short (a .bytes .now) (omega arith)
+returns c = framing-short _ (omega arith)
 
 word-at-requires : tie.Need-word-at-requires
 word-at-requires c κs = search needs
@@ -17,8 +17,7 @@ rest-of-requires c κs = search needs
 returns-2 : tie.Need-returns-2
 returns-2 c =
     let w = c .before .before in
-    let bs = w .before .before .before .args .bytes .now in
-    at-rest bs _ _ (omega arith) (w .word-at .ensures) (c .before .rest-of .ensures) (c .if2 .taken)
+    at-rest _ _ _ (omega arith) (w .word-at .ensures) (c .before .rest-of .ensures) (c .if2 .taken)
 
 length-of-requires : tie.Need-length-of-requires
 length-of-requires c κs = search needs
@@ -28,8 +27,7 @@ returns-3 c =
     let n = c .before in
     let r = n .before .before in
     let w = r .before in
-    let bs = w .before .before .before .args .bytes .now in
-    at-empty bs _ _ (omega arith) (w .word-at .ensures) (r .rest-of .ensures) (n .before .if2 .left) _ (n .length-of .ensures)
+    at-empty _ _ _ (omega arith) (w .word-at .ensures) (r .rest-of .ensures) (n .before .if2 .left) _ (n .length-of .ensures)
     (c .if3 .taken)
 
 cast-size : tie.Need-cast-size
@@ -43,8 +41,7 @@ returns-4 c =
     let n = c .before .before in
     let r = n .before .before in
     let w = r .before in
-    let bs = w .before .before .before .args .bytes .now in
-    at-size bs _ _ (omega arith) (w .word-at .ensures) (r .rest-of .ensures) (n .before .if2 .left) _ (n .length-of .ensures)
+    at-size _ _ _ (omega arith) (w .word-at .ensures) (r .rest-of .ensures) (n .before .if2 .left) _ (n .length-of .ensures)
     (c .before .if3 .left) (c .if4 .taken)
 
 returns-5 : tie.Need-returns-5
@@ -52,8 +49,7 @@ returns-5 c =
     let n = c .before .before in
     let r = n .before .before in
     let w = r .before in
-    let bs = w .before .before .before .args .bytes .now in
-    at-fine bs _ _ (omega arith) (w .word-at .ensures) (r .rest-of .ensures) (n .before .if2 .left) _ (n .length-of .ensures)
+    at-fine _ _ _ (omega arith) (w .word-at .ensures) (r .rest-of .ensures) (n .before .if2 .left) _ (n .length-of .ensures)
     (c .before .if3 .left) (c .if4 .left)
 
 pub framing-of-spec : {M : Type 1} → statement M

@@ -11,15 +11,13 @@ command-refusal-requires c κs = search needs
 returns : tie.Need-returns
 returns c =
     let at-refusal = c .before in
-    let a = at-refusal .before .before .before .before .before .args in
-    numbers-illegal (a .command) (a .out .now) (at-refusal .command-refusal .ensures .0) (c .if2 .taken)
+    numbers-illegal _ _ (at-refusal .command-refusal .ensures .0) (c .if2 .taken)
 
 returns-2 : tie.Need-returns-2
 returns-2 c =
     let at-refusal = c .before in
     let far = at-refusal .before in
-    let a = far .before .before .before .before .args in
-    numbers-unencoded (a .command) (a .out .now) (at-refusal .command-refusal .ensures .0) (c .if2 .left) (far .if1 .taken)
+    numbers-unencoded _ _ (at-refusal .command-refusal .ensures .0) (c .if2 .left) (far .if1 .taken)
 
 write-command-requires : tie.Need-write-command-requires
 write-command-requires c κs = search needs
@@ -31,8 +29,7 @@ returns-3 : tie.Need-returns-3
 returns-3 c =
     let at-write = c .before .before in
     let near = at-write .before .before .before in
-    let a = near .before .before .before .before .args in
-    numbers-written (a .command) (a .out .now) (near .if1 .left) (at-write .write-command .ensures)
+    numbers-written _ _ (near .if1 .left) (at-write .write-command .ensures)
 
 pub vq-write-command-spec : {M : Type 1} → statement M
 vq-write-command-spec = tie.close (tie.spec command-refusal-requires returns returns-2 write-command-requires same-length returns-3)

@@ -19,8 +19,9 @@ numbers-of-requires c κs = search needs
 
 returns : tie.Need-returns
 returns c =
-    let judged = c .before .before .before .judge-at .ensures .answers in
-    ap verdictNumbers (sym (c .before .number .given .1) ∙ judged)
+    let refused = c .before in
+    let judged = refused .before .before in
+    ap verdictNumbers (sym (refused .number .given .1) ∙ judged .judge-at .ensures .answers)
 
 returns-2 : tie.Need-returns-2
 returns-2 c =

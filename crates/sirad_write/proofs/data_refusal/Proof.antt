@@ -6,30 +6,24 @@ use Rattle.sirad_write.proofs.data_refusal.Statement.{statement}
 use Rattle.sirad_write.proofs.data_refusal.Tie as tie
 
 returns : tie.Need-returns
-returns c = let a = c .before .before .args in kind-low (a .kind) (a .content .now) (c .if1 .taken)
+returns c = kind-low _ _ (c .if1 .taken)
 
 returns-2 : tie.Need-returns-2
-returns-2 c = let a = c .before .before .before .args in kind-high (a .kind) (a .content .now) (c .if2 .taken)
+returns-2 c = kind-high _ _ (c .if2 .taken)
 
 returns-3 : tie.Need-returns-3
-returns-3 c =
-    let a = c .before .before .before .before .args in
-    too-many (a .kind) (a .content .now) (omega arith) (omega arith) (c .if3 .taken)
+returns-3 c = too-many _ _ (omega arith) (omega arith) (c .if3 .taken)
 
 all-characters-requires : tie.Need-all-characters-requires
 all-characters-requires c κs = search needs
 
 returns-4 : tie.Need-returns-4
 returns-4 c =
-    let test = c .before in
-    let a = test .before .before .before .before .before .args in
-    data-accepted (a .kind) (a .content .now) (omega arith) (omega arith) (omega arith) (test .all-characters .ensures) (c .if4 .taken)
+    data-accepted _ _ (omega arith) (omega arith) (omega arith) (c .before .all-characters .ensures) (c .if4 .taken)
 
 returns-5 : tie.Need-returns-5
 returns-5 c =
-    let test = c .before in
-    let a = test .before .before .before .before .before .args in
-    data-unencoded (a .kind) (a .content .now) (omega arith) (omega arith) (omega arith) (test .all-characters .ensures) (c .if4 .left)
+    data-unencoded _ _ (omega arith) (omega arith) (omega arith) (c .before .all-characters .ensures) (c .if4 .left)
 
 pub data-refusal-spec : {M : Type 1} → statement M
 data-refusal-spec =
