@@ -1,10 +1,10 @@
--- `listing_io::read_block` meets its contract: each turn takes one of the tries.
+-- `listing_gather::read_block` meets its contract: each turn takes one of the tries.
 use mathlib.Core.Path.{_≡_}
 use lib.ListN.{length}
 use Prim.Native.Nat.{_≤_, _-_}
 use borrow.Author.Needs.{needs}
-use Rattle.listing_io.proofs.read_block.Statement.{statement}
-use Rattle.listing_io.proofs.read_block.Tie as tie
+use Rattle.listing_gather.proofs.read_block.Statement.{statement}
+use Rattle.listing_gather.proofs.read_block.Tie as tie
 
 abbrev Inv-loop : tie.InvT-loop
 Inv-loop block₀ tries₀ block tries = (tries ≤ 1000000) × (length block ≡ length block₀)

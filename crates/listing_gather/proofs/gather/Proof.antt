@@ -1,4 +1,4 @@
--- `listing_io::gather` meets its contract. The loop keeps that what was gathered so far is some input; each turn gathers a byte at least.
+-- `listing_gather::gather` meets its contract. The loop keeps that what was gathered so far is some input; each turn gathers a byte at least.
 use mathlib.Core.Path.{_≡_, refl, ap, _∙_}
 use Prim.Native.Nat.{_≤_, _-_}
 use native.Mathlib.Omega.{arith}
@@ -6,8 +6,8 @@ use lib.ListN.{length}
 use Rattle.listing.proofs.GatherLaws.{Gathered, gathered-none, gathered-more, gathers-all, gathers-failed, read-within}
 use Rattle.listing.proofs.PutLaws.{puts-length}
 use borrow.Author.Needs.{needs}
-use Rattle.listing_io.proofs.gather.Statement.{statement}
-use Rattle.listing_io.proofs.gather.Tie as tie
+use Rattle.listing_gather.proofs.gather.Statement.{statement}
+use Rattle.listing_gather.proofs.gather.Tie as tie
 
 abbrev Inv-loop : tie.InvT-loop
 Inv-loop block₀ buffer₀ size₀ block buffer size =

@@ -1,4 +1,4 @@
--- `listing_io::append` meets its contract: as many bytes as were got and as there is room for.
+-- `listing_gather::append` meets its contract: as many bytes as were got and as there is room for.
 use mathlib.Core.Path.{sym}
 use Prim.Native.Nat.{_+_, _≤_}
 use native.Mathlib.Omega.{arith}
@@ -7,8 +7,8 @@ use lib.Seq.{length-take-le}
 use Rattle.listing.proofs.GatherLaws.{appends}
 use Rattle.listing.proofs.PutLaws.{puts-taken}
 use borrow.Author.Needs.{needs}
-use Rattle.listing_io.proofs.append.Statement.{statement}
-use Rattle.listing_io.proofs.append.Tie as tie
+use Rattle.listing_gather.proofs.append.Statement.{statement}
+use Rattle.listing_gather.proofs.append.Tie as tie
 
 sub-least : tie.Need-sub-least
 sub-least c = search needs
