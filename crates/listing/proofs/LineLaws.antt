@@ -4,6 +4,7 @@ use mathlib.Core.List.{List, [], _∷_, _++_}
 use Prim.Native.Nat.{ℕ, zero, suc, _+_, _-_, _*_, _≤_, _<_}
 use native.Mathlib.Nat.{add-zero}
 use native.Mathlib.Omega.{arith}
+use borrow.Author.Tests.{lt-ltb, le-ltb}
 use lib.ListN.{length, drop, getD, length-append}
 use lib.Seq.{drop-drop, getD-drop}
 use Rattle.digits.specs.Stores.{stored}
@@ -12,7 +13,7 @@ use Rattle.reading.specs.Reading.{flat}
 use Rattle.reading.specs.declared.Row.{Row}
 use Rattle.listing.specs.Decimal.{decimal, width}
 use Rattle.listing.specs.Lines.{letter, field, fields, rowLine, rowLines, headerLine, endLine, lineFeed}
-use Rattle.listing.specs.Internal.{Puts, tableLines, tableText, firstOf}
+use Rattle.listing.specs.Internal.{Puts, tableLines, tableText, firstOf, heldRows}
 use Rattle.listing.proofs.PutLaws.{puts-then}
 use Rattle.listing.proofs.DecimalLaws.{width-most, length-decimal}
 
@@ -176,3 +177,17 @@ pub lines-of-rows : (ws : List Row) (rest : List ℕ) → tableLines (length ws)
 unfolding tableLines rowLines flat
 lines-of-rows [] rest = refl
 lines-of-rows (w ∷ ws) rest = ap (λ (text : List ℕ). rowLine w ++ text) (lines-of-rows ws rest)
+
+-- -- The rows asked for
+
+pub held-many : (rows : ℕ) (table : List ℕ) → 8192 < rows → 0 ≡ heldRows rows table
+unfolding heldRows
+held-many rows table h = rw (lt-ltb 8192 rows h)
+
+pub held-few : (rows : ℕ) (table : List ℕ) → rows ≤ 8192 → length table < 3 * rows → 0 ≡ heldRows rows table
+unfolding heldRows
+held-few rows table h l = rw (le-ltb 8192 rows h, lt-ltb (length table) (3 * rows) l)
+
+pub held-all : (rows : ℕ) (table : List ℕ) → rows ≤ 8192 → 3 * rows ≤ length table → rows ≡ heldRows rows table
+unfolding heldRows
+held-all rows table h l = rw (le-ltb 8192 rows h, le-ltb (length table) (3 * rows) l)

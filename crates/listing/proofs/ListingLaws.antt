@@ -9,9 +9,9 @@ use native.Mathlib.Decide.{decLt}
 use borrow.Author.Tests.{lt-ltb, le-ltb, le-leb}
 use lib.Dec.{ltb}
 use lib.ListN.{length, drop, length-append}
-use Rattle.digits.specs.Stores.{stored, Writes}
+use Rattle.digits.specs.Stores.{stored, storedWithin, Writes}
 use Rattle.digits.specs.declared.Written.{Written}
-use Rattle.digits.proofs.StoreLaws.{length-stored, short, done}
+use Rattle.digits.proofs.StoreLaws.{length-stored, within-fits, short, done}
 use Rattle.reading.specs.Answers.{answered, roomIn}
 use Rattle.reading.specs.Reading.{Reading, reading, flat, rowWidth, lengths}
 use Rattle.reading.specs.declared.Answer.{Answer}
@@ -24,9 +24,9 @@ use Rattle.capture.specs.declared.Dialect.{Dialect}
 use Rattle.capture.proofs.Wires.{lawful-of, number-names}
 use Rattle.listing.specs.Lines.{headerLine, rowLine, rowLines, endLine, refusedLine}
 use Rattle.listing.specs.Listing.{closedReading, listed, listing, maxInput}
-use Rattle.listing.specs.Internal.{Puts, tableLines, tableText, textRoom}
+use Rattle.listing.specs.Internal.{Puts, tableLines, tableText, heldRows, textRoom}
 use Rattle.listing.proofs.PutLaws.{puts-length}
-use Rattle.listing.proofs.LineLaws.{lines-of-rows, row-most, end-most}
+use Rattle.listing.proofs.LineLaws.{lines-of-rows, row-most, end-most, held-all}
 use Rattle.listing.proofs.RoomLaws.{rows-in-bytes, room-enough}
 
 -- the closed reading of a dialect, as an answer and a table
@@ -79,8 +79,12 @@ module _ (d : Dialect) (bs : List ℕ) (short : length bs ≤ maxInput) where
 
   -- so what is written for the table is the listing
   pub writes-listed : (a : Answer) (table out : List ℕ) (r : Written) (after : List ℕ) → Closed d bs a table
-      → Writes 0 (tableText (a .rows) table (length bs) (a .skipped)) out r after → Writes 0 (listed d bs) out r after
-  writes-listed a table out r after c w = rw (text-listed a table c) at w
+      → Writes 0 (tableText (heldRows (a .rows) table) table (length bs) (a .skipped)) out r after → Writes 0 (listed d bs) out r after
+  writes-listed a table out r after c w =
+      let f = closed-few a table c in
+      let s = c .sized in
+      let h : a .rows ≡ heldRows (a .rows) table = held-all (a .rows) table (f .0) (omega arith) in
+      rw (← h, text-listed a table c) at w
 
 rows-most : (ws : List Row) → length (rowLines ws) ≤ 24 * length ws
 unfolding rowLines
@@ -149,3 +153,8 @@ writes-short text out h = short 0 text out refl h
 pub writes-done : {text out after : List ℕ} {end : ℕ} → Puts text out 0 end after → length text ≤ length out
     → Writes 0 text out (record { refusal = 0; size = end }) after
 writes-done {text} {out} {after} {end} p h = done 0 text out after end refl (omega (arith, p .ends)) (omega (arith, p .ends)) (p .leaves)
+
+-- a text that fits, stored at once
+pub writes-stored : {text out after : List ℕ} → after ≡ storedWithin out 0 text → length text ≤ length out
+    → Writes 0 text out (record { refusal = 0; size = length text }) after
+writes-stored {text} {out} {after} e h = done 0 text out after (length text) refl refl h (e ∙ within-fits out 0 text (omega arith))

@@ -1,7 +1,9 @@
 -- What only the code's own contracts need; no rule of the papers is stated here.
+use mathlib.Core.Bool.{cond}
 use mathlib.Core.Path.{_≡_}
 use mathlib.Core.List.{List, [], _++_}
-use Prim.Native.Nat.{ℕ, zero, suc, _+_, _-_, _<_, _≤_}
+use Prim.Native.Nat.{ℕ, zero, suc, _+_, _-_, _*_, _<_, _≤_}
+use lib.Dec.{ltb}
 use lib.ListN.{length, take, drop, getD}
 use Rattle.digits.specs.Stores.{stored}
 use Rattle.reading.specs.declared.Row.{Row}
@@ -36,6 +38,10 @@ tableLines (suc n) table = rowLine (firstOf table) ++ tableLines n (drop 3 table
 -- the text of the first n rows of a table: the first line, the rows' lines, the last line
 unfoldable pub tableText : ℕ → List ℕ → ℕ → ℕ → List ℕ
 tableText n table size skipped = headerLine ++ (tableLines n table ++ endLine size skipped)
+
+-- the number of rows asked for, where the table holds them and they are at most 8,192; else none
+unfoldable pub heldRows : ℕ → List ℕ → ℕ
+heldRows rows table = cond (ltb 8192 rows) 0 (cond (ltb (length table) (3 * rows)) 0 rows)
 
 -- -- Standard input
 

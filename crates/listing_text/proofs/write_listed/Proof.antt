@@ -24,40 +24,31 @@ cast-size c = search needs
 
 cast-skipped : tie.Need-cast-skipped
 cast-skipped c =
-    let a = c .before .before .before .before .before .before .before .before .args in
+    let at-read = c .before .before in let at-number = at-read .before .before in let at-table = at-number .before in
+    let a = at-table .before .before .before .args in
     let h : length (a .bytes .now) ≤ 65536 = omega arith in
-    let n = c .before .before .before .before .number-of .ensures in
-    let t = c .before .before .before .before .before .row-table .ensures in
-    let r = c .before .before .closed-reading in
-    let w = closed-whole (a .d) (a .bytes .now) h _ _ _ _ n t (r .ensures) in
+    let r = at-read .closed-reading in
+    let w = closed-whole (a .d) (a .bytes .now) h _ _ _ _ (at-number .number-of .ensures) (at-table .row-table .ensures) (r .ensures) in
     omega (arith, closed-few (a .d) (a .bytes .now) h (r .result) _ w .1)
 
 slice-aggregate-write-table : tie.Need-slice-aggregate-write-table
 slice-aggregate-write-table c = search needs
 
 write-table-requires : tie.Need-write-table-requires
-write-table-requires c κs =
-    let a = c .before .before .before .before .before .before .before .before .before .before .args in
-    let h : length (a .bytes .now) ≤ 65536 = omega arith in
-    let n = c .before .before .before .before .before .before .number-of .ensures in
-    let t = c .before .before .before .before .before .before .before .row-table .ensures in
-    let r = c .before .before .before .before .closed-reading in
-    let w = closed-whole (a .d) (a .bytes .now) h _ _ _ _ n t (r .ensures) in
-    let f = closed-few (a .d) (a .bytes .now) h (r .result) _ w in
-    (f .0, omega (arith, f .0, w .sized))
+write-table-requires c κs = search needs
 
 same-length : tie.Need-same-length
 same-length c = search needs
 
 returns : tie.Need-returns
 returns c =
-    let a = c .before .before .before .before .before .before .before .before .before .before .before .before .before .args in
+    let at-write = c .before .before in let at-read = at-write .before .before .before .before .before in
+    let at-number = at-read .before .before in let at-table = at-number .before in
+    let a = at-table .before .before .before .args in
     let h : length (a .bytes .now) ≤ 65536 = omega arith in
-    let n = c .before .before .before .before .before .before .before .before .before .number-of .ensures in
-    let t = c .before .before .before .before .before .before .before .before .before .before .row-table .ensures in
-    let r = c .before .before .before .before .before .before .before .closed-reading in
-    let w = closed-whole (a .d) (a .bytes .now) h _ _ _ _ n t (r .ensures) in
-    writes-listed (a .d) (a .bytes .now) h _ _ _ _ _ w (c .before .before .write-table .ensures)
+    let r = at-read .closed-reading in
+    let w = closed-whole (a .d) (a .bytes .now) h _ _ _ _ (at-number .number-of .ensures) (at-table .row-table .ensures) (r .ensures) in
+    writes-listed (a .d) (a .bytes .now) h _ _ _ _ _ w (at-write .write-table .ensures)
 
 pub write-listed-spec : {M : Type 1} → statement M
 write-listed-spec =

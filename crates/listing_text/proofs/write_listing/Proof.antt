@@ -18,8 +18,8 @@ same-length c = search needs
 returns : tie.Need-returns
 unfolding refusedLine
 returns c =
-    let a = c .before .before .before .before .before .before .before .before .args in
-    listing-long (a .d) (a .bytes .now) (a .out .now) _ _ (omega arith) (c .before .before .write-text .ensures)
+    let text = c .before .before in let a = text .before .before .before .before .before .before .args in
+    listing-long (a .d) (a .bytes .now) (a .out .now) _ _ (omega arith) (text .write-text .ensures)
 
 write-listed-requires : tie.Need-write-listed-requires
 write-listed-requires c κs = search needs
@@ -29,8 +29,8 @@ same-length-2 c = search needs
 
 returns-2 : tie.Need-returns-2
 returns-2 c =
-    let a = c .before .before .before .before .before .before .before .args in
-    listing-whole (a .d) (a .bytes .now) (a .out .now) _ _ (omega arith) (c .before .before .write-listed .ensures)
+    let text = c .before .before in let a = text .before .before .before .before .before .args in
+    listing-whole (a .d) (a .bytes .now) (a .out .now) _ _ (omega arith) (text .write-listed .ensures)
 
 pub write-listing-spec : {M : Type 1} → statement M
 write-listing-spec =
