@@ -36,8 +36,9 @@ returns c =
     let n = l .least .result in let a = s .args in
     let fits : n ≤ length (a .block .now) = omega arith in
     let room : a .size + n ≤ length (a .buffer .now) = omega (arith, l .least .ensures .1, s .pre .0) in
-    appends (puts-taken (a .block .now) (a .buffer .now) _ (a .size) n (put .put-bytes .ensures) fits room) fits (l .least .ensures .0) (l .least .ensures .1) (s .pre .0)
-    (l .least .ensures .2)
+    let e = l .least .ensures in
+    let puts = puts-taken (a .block .now) (a .buffer .now) _ (a .size) n (put .put-bytes .ensures) fits room in
+    appends puts fits (e .0) (e .1) (s .pre .0) (e .2)
 
 pub append-spec : {M : Type 1} → statement M
 append-spec =

@@ -40,13 +40,13 @@ returns c = search needs
 
 array-share-prefix-buffer : tie.Need-array-share-prefix-buffer
 array-share-prefix-buffer c =
-    let g = c .before .before .before .before .before .before .gather .ensures in
-    read-counts g (c .before .input .given .1) .0
+    let told = c .before in let gathered = told .before .before .before .before .before in
+    read-counts (gathered .gather .ensures) (told .input .given .1) .0
 
 slice-aggregate-put-listing : tie.Need-slice-aggregate-put-listing
 slice-aggregate-put-listing c =
-    let g = c .before .before .before .before .before .before .before .gather .ensures in
-    read-counts g (c .before .before .input .given .1) .1
+    let told = c .before .before in let gathered = told .before .before .before .before .before in
+    read-counts (gathered .gather .ensures) (told .input .given .1) .1
 
 slice-aggregate-put-listing-2 : tie.Need-slice-aggregate-put-listing-2
 slice-aggregate-put-listing-2 c = search needs

@@ -13,8 +13,8 @@ same-length c = search needs
 
 returns : tie.Need-returns
 returns c =
-    let a = c .before .before .before .before .before .before .args in
-    writes-puts (c .before .before .write-listing .ensures) (omega (arith, listing-most (a .d) (a .bytes .now)))
+    let written = c .before .before in let a = written .before .before .before .before .args in
+    writes-puts (written .write-listing .ensures) (omega (arith, listing-most (a .d) (a .bytes .now)))
 
 pub put-listing-spec : {M : Type 1} → statement M
 put-listing-spec = tie.close (tie.spec write-listing-requires same-length returns)
