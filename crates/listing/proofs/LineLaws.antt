@@ -13,8 +13,8 @@ use Rattle.reading.specs.Reading.{flat}
 use Rattle.reading.specs.declared.Row.{Row}
 use Rattle.listing.specs.Decimal.{decimal, width}
 use Rattle.listing.specs.Lines.{letter, field, fields, rowLine, rowLines, headerLine, endLine, lineFeed}
-use Rattle.listing.specs.Internal.{Puts, tableLines, tableText, firstOf, heldRows}
-use Rattle.listing.proofs.PutLaws.{puts-then}
+use Rattle.listing.specs.Internal.{Puts, Lays, tableLines, tableText, firstOf, heldRows}
+use Rattle.listing.proofs.PutLaws.{puts-then, lays-puts, lays-fit, lays-unfit}
 use Rattle.listing.proofs.DecimalLaws.{width-most, length-decimal}
 
 -- -- Lengths
@@ -64,6 +64,11 @@ length-end size skipped = omega (arith, length-append (101 ∷ 110 ∷ 100 ∷ [
 pub end-most : (size skipped : ℕ) → length (endLine size skipped) ≤ 26
 end-most size skipped = omega (arith, length-end size skipped, fields-most size skipped)
 
+-- the first line has 18 bytes
+pub length-header : length headerLine ≡ 18
+unfolding headerLine
+length-header = refl
+
 -- the whole text
 pub length-table-text : (n : ℕ) (table : List ℕ) (size skipped : ℕ)
     → length (tableText n table size skipped) ≡ 21 + length (tableLines n table) + length (fields size skipped)
@@ -73,22 +78,32 @@ length-table-text n table size skipped =
     let f = length-append (tableLines n table) (endLine size skipped) in
     omega (arith, length-end size skipped)
 
--- -- A row
+-- -- A word and two numbers
 
--- a letter and two numbers of the table are the line of the row there
-pub puts-row : (table : List ℕ) (index k : ℕ) {out out′ out″ : List ℕ} {at m end : ℕ}
-    → k ≡ letter (getD table (index + 2) 0) → Puts (k ∷ []) out at m out′
-    → Puts (fields (getD table index 0) (getD table (index + 1) 0)) out′ m end out″
-    → Puts (rowLine (firstOf (drop index table))) out at end out″
-unfolding rowLine
-puts-row table index k e p q =
-    rw (getD-drop index table 0 0, getD-drop index table 1 0, getD-drop index table 2 0, add-zero index, ← e) (puts-then p q)
+pub line-unfit : (word out : List ℕ) (at a b : ℕ) → length out < at + (length word + length (fields a b))
+    → Lays (word ++ fields a b) out at at out
+line-unfit word out at a b h = lays-unfit (word ++ fields a b) out at (omega (arith, length-append word (fields a b)))
+
+pub line-fits : {word out out′ out″ : List ℕ} {at m end : ℕ} (a b : ℕ) → Puts word out at m out′ → Puts (fields a b) out′ m end out″
+    → at + (length word + length (fields a b)) ≤ length out → Lays (word ++ fields a b) out at end out″
+line-fits {word} {out} {out′} {out″} {at} {m} {end} a b p q h = lays-fit (puts-then p q) (omega (arith, length-append word (fields a b)))
+
+-- -- A row
 
 -- its length
 pub length-row-at : (table : List ℕ) (index : ℕ)
     → length (rowLine (firstOf (drop index table))) ≡ 1 + length (fields (getD table index 0) (getD table (index + 1) 0))
 length-row-at table index =
     length-row (firstOf (drop index table)) ∙ rw (getD-drop index table 0 0, getD-drop index table 1 0, add-zero index)
+
+-- a letter and two numbers of the table, put as a line, are the line of the row there
+pub puts-row : (table : List ℕ) (index k : ℕ) {out after : List ℕ} {at end : ℕ} → k ≡ letter (getD table (index + 2) 0)
+    → Lays ((k ∷ []) ++ fields (getD table index 0) (getD table (index + 1) 0)) out at end after
+    → at + length (rowLine (firstOf (drop index table))) ≤ length out → Puts (rowLine (firstOf (drop index table))) out at end after
+unfolding rowLine
+puts-row table index k e l h =
+    rw (getD-drop index table 0 0, getD-drop index table 1 0, getD-drop index table 2 0, add-zero index, ← e)
+    (lays-puts l (omega (arith, length-row-at table index)))
 
 -- -- The loops over the rows
 

@@ -3,11 +3,12 @@ use mathlib.Core.Path.{_≡_, refl, sym, ap, _∙_}
 use mathlib.Core.List.{List, [], _∷_, _++_}
 use Prim.Native.Nat.{ℕ, suc, _+_, _≤_, _<_}
 use native.Mathlib.Omega.{arith}
+use borrow.Author.Tests.{le-leb, lt-leb}
 use lib.ListN.{length, take, set, length-append}
 use lib.Seq.{length-take-le}
 use Rattle.digits.specs.Stores.{stored, storedWithin}
-use Rattle.digits.proofs.StoreLaws.{stored-one, length-stored, then, within-fits}
-use Rattle.listing.specs.Internal.{Puts}
+use Rattle.digits.proofs.StoreLaws.{stored-one, length-stored, then, within-fits, within-unfit}
+use Rattle.listing.specs.Internal.{Puts, Lays}
 
 -- two pieces: the first, then the second behind it
 pub puts-then : {xs ys l l′ l″ : List ℕ} {at m r : ℕ} → Puts xs l at m l′ → Puts ys l′ m r l″ → Puts (xs ++ ys) l at r l″
@@ -34,3 +35,25 @@ pub puts-taken : (block l l′ : List ℕ) (at n : ℕ) → l′ ≡ storedWithi
 puts-taken block l l′ at n e h k =
     let s : length (take n block) ≡ n = length-take-le n block h in
     record { leaves = e ∙ within-fits l at (take n block) (omega arith); ends = ap (λ (m : ℕ). at + m) (sym s) }
+
+-- -- Text that is put only where it fits
+
+pub lays-puts : {text out after : List ℕ} {at end : ℕ} → Lays text out at end after → at + length text ≤ length out
+    → Puts text out at end after
+lays-puts {text} {out} {after} {at} {end} l h = record {
+  leaves = l .leaves ∙ within-fits out at text h;
+  ends = l .ends ∙ rw (le-leb (at + length text) (length out) h);
+}
+
+pub lays-fit : {text out after : List ℕ} {at end : ℕ} → Puts text out at end after → at + length text ≤ length out
+    → Lays text out at end after
+lays-fit {text} {out} {after} {at} {end} p h = record {
+  leaves = p .leaves ∙ sym (within-fits out at text h);
+  ends = p .ends ∙ rw (le-leb (at + length text) (length out) h);
+}
+
+pub lays-unfit : (text out : List ℕ) (at : ℕ) → length out < at + length text → Lays text out at at out
+lays-unfit text out at h = record {
+  leaves = sym (within-unfit out at text h);
+  ends = rw (lt-leb (at + length text) (length out) h);
+}

@@ -3,9 +3,9 @@ use mathlib.Core.Bool.{cond}
 use mathlib.Core.Path.{_≡_}
 use mathlib.Core.List.{List, [], _++_}
 use Prim.Native.Nat.{ℕ, zero, suc, _+_, _-_, _*_, _<_, _≤_}
-use lib.Dec.{ltb}
+use lib.Dec.{leb, ltb}
 use lib.ListN.{length, take, drop, getD}
-use Rattle.digits.specs.Stores.{stored}
+use Rattle.digits.specs.Stores.{stored, storedWithin}
 use Rattle.reading.specs.declared.Row.{Row}
 use Rattle.listing.specs.Lines.{headerLine, rowLine, endLine}
 use Rattle.listing.specs.declared.Input.{Input}
@@ -23,6 +23,11 @@ textRoom = 196652
 pub record Puts (text out : List ℕ) (at end : ℕ) (after : List ℕ) : Type 0 where
   pub leaves : after ≡ stored out at text
   pub ends : end ≡ at + length text
+
+-- the same where the text fits; else the buffer is unchanged, and the answer is the offset itself
+pub record Lays (text out : List ℕ) (at end : ℕ) (after : List ℕ) : Type 0 where
+  pub leaves : after ≡ storedWithin out at text
+  pub ends : end ≡ cond (leb (at + length text) (length out)) (at + length text) at
 
 -- -- Rows in a table
 
@@ -42,6 +47,10 @@ tableText n table size skipped = headerLine ++ (tableLines n table ++ endLine si
 -- the number of rows asked for, where the table holds them and they are at most 8,192; else none
 unfoldable pub heldRows : ℕ → List ℕ → ℕ
 heldRows rows table = cond (ltb 8192 rows) 0 (cond (ltb (length table) (3 * rows)) 0 rows)
+
+-- the text of these rows
+abbrev pub heldText : ℕ → List ℕ → ℕ → ℕ → List ℕ
+heldText rows table size skipped = tableText (heldRows rows table) table size skipped
 
 -- -- Standard input
 

@@ -1,83 +1,20 @@
 // The text of a table of rows: measured, and put (paper 01, "The listing").
 
 use digits::Written;
+use listing_lines::fields_size;
+use listing_lines::put_line;
 ghost use mathlib.Core.Path.{_≡_};
-ghost use mathlib.Core.List.{[], _∷_};
 ghost use Prim.Native.Nat.{_+_, _*_, _≤_, _<_};
 ghost use lib.ListN.{length, drop};
 ghost use Rattle.digits.specs.Stores.{Writes};
-ghost use Rattle.listing.specs.Decimal.{decimal, width};
-ghost use Rattle.listing.specs.Lines.{letter, field, fields, rowLine, endLine};
-ghost use Rattle.listing.specs.Internal.{Puts, tableLines, tableText, firstOf, heldRows};
+ghost use Rattle.listing.specs.Lines.{letter, headerLine, rowLine, endLine};
+ghost use Rattle.listing.specs.Internal.{Puts, tableLines, tableText, firstOf, heldRows, heldText};
 
 // The refusal of the listing (paper 01, "Refusal numbers").
 pub const OUTPUT_TOO_SHORT: u32 = 51;
 
 // The most rows that are listed.
 const MAX_ROWS: usize = 8192;
-
-const TAB: u8 = 9;
-
-const LINE_FEED: u8 = 10;
-
-// Puts one byte into the buffer.
-fn put_byte(out: &mut [u8], at: usize, b: u8) -> usize
-    requires { ⌜ at < length (now out) ⌝ }
-    ensures { λ r. ⌜ Puts (b ∷ []) (now (out .entry)) at r (now (out .exit)) ⌝ }
-{
-    out[at] = b;
-    at + 1
-}
-
-// Puts bytes into the buffer.
-fn put_text(out: &mut [u8], at: usize, text: &[u8]) -> usize
-    requires { ⌜ at + length (now text) ≤ length (now out) ⌝ }
-    ensures { λ r. ⌜ Puts (now (text .entry)) (now (out .entry)) at r (now (out .exit)) ⌝ }
-{
-    stores::put_bytes(out, at, text);
-    at + text.len()
-}
-
-// How many digits a number takes.
-fn width_of(v: u32) -> usize
-    ensures { λ r. ⌜ r ≡ width v ⌝ }
-{
-    if v < 10 {
-        return 1;
-    }
-    if v < 100 {
-        return 2;
-    }
-    if v < 1000 {
-        return 3;
-    }
-    if v < 10000 {
-        return 4;
-    }
-    if v < 100000 {
-        return 5;
-    }
-    if v < 1000000 {
-        return 6;
-    }
-    if v < 10000000 {
-        return 7;
-    }
-    if v < 100000000 {
-        return 8;
-    }
-    if v < 1000000000 {
-        return 9;
-    }
-    10
-}
-
-// How many bytes two numbers take to the end of a line: two tabs, their digits, a line feed.
-fn fields_size(a: u32, b: u32) -> usize
-    ensures { λ r. ⌜ r ≡ length (fields a b) ⌝ }
-{
-    3 + width_of(a) + width_of(b)
-}
 
 // How many bytes the line of the row takes that starts at an index of the table.
 fn row_size(table: &[u32], index: usize) -> usize
@@ -115,39 +52,6 @@ fn text_size(table: &[u32], rows: usize, size: u32, skipped: u32) -> usize
     21 + lines + last
 }
 
-// Puts a number in decimal, its last digit first.
-fn put_decimal(out: &mut [u8], at: usize, v: u32) -> usize
-    requires { ⌜ at + length (decimal v) ≤ length (now out) ⌝ }
-    ensures { λ r. ⌜ Puts (decimal v) (now (out .entry)) at r (now (out .exit)) ⌝ }
-{
-    let n = width_of(v);
-    let mut left = n;
-    let mut rest = v;
-    while 0 < left {
-        left = left - 1;
-        out[at + left] = 48 + (rest % 10) as u8;
-        rest = rest / 10;
-    }
-    at + n
-}
-
-fn put_field(out: &mut [u8], at: usize, v: u32) -> usize
-    requires { ⌜ at + length (field v) ≤ length (now out) ⌝ }
-    ensures { λ r. ⌜ Puts (field v) (now (out .entry)) at r (now (out .exit)) ⌝ }
-{
-    let digits = put_byte(out, at, TAB);
-    put_decimal(out, digits, v)
-}
-
-fn put_fields(out: &mut [u8], at: usize, a: u32, b: u32) -> usize
-    requires { ⌜ at + length (fields a b) ≤ length (now out) ⌝ }
-    ensures { λ r. ⌜ Puts (fields a b) (now (out .entry)) at r (now (out .exit)) ⌝ }
-{
-    let second = put_field(out, at, a);
-    let end = put_field(out, second, b);
-    put_byte(out, end, LINE_FEED)
-}
-
 // The letter of a kind.
 fn letter_of(kind: u32) -> u8
     ensures { λ r. ⌜ r ≡ letter kind ⌝ }
@@ -170,9 +74,8 @@ fn put_row(out: &mut [u8], at: usize, table: &[u32], index: usize) -> usize
     requires { ⌜ at + length (rowLine (firstOf (drop index (now table)))) ≤ length (now out) ⌝ }
     ensures { λ r. ⌜ Puts (rowLine (firstOf (drop index (now (table .entry))))) (now (out .entry)) at r (now (out .exit)) ⌝ }
 {
-    let kind = letter_of(table[index + 2]);
-    let numbers = put_byte(out, at, kind);
-    put_fields(out, numbers, table[index], table[index + 1])
+    let letter = letter_of(table[index + 2]);
+    put_line(out, at, &[letter], table[index], table[index + 1])
 }
 
 // Puts the lines of the first rows of the table.
@@ -195,8 +98,16 @@ fn put_end(out: &mut [u8], at: usize, size: u32, skipped: u32) -> usize
     requires { ⌜ at + length (endLine size skipped) ≤ length (now out) ⌝ }
     ensures { λ r. ⌜ Puts (endLine size skipped) (now (out .entry)) at r (now (out .exit)) ⌝ }
 {
-    let numbers = put_text(out, at, b"end");
-    put_fields(out, numbers, size, skipped)
+    put_line(out, at, b"end", size, skipped)
+}
+
+// Puts the first line.
+fn put_header(out: &mut [u8]) -> usize
+    requires { ⌜ 18 ≤ length (now out) ⌝ }
+    ensures { λ r. ⌜ Puts headerLine (now (out .entry)) 0 r (now (out .exit)) ⌝ }
+{
+    stores::put_bytes(out, 0, b"kind\tplace\tlength\n");
+    18
 }
 
 // Puts the first line, the lines of the table's rows, and the last line.
@@ -205,7 +116,7 @@ fn put_all(out: &mut [u8], table: &[u32], rows: usize, size: u32, skipped: u32) 
     requires { ⌜ length (tableText rows (now table) size skipped) ≤ length (now out) ⌝ }
     ensures { λ r. ⌜ Puts (tableText rows (now (table .entry)) size skipped) (now (out .entry)) 0 r (now (out .exit)) ⌝ }
 {
-    let first = put_text(out, 0, b"kind\tplace\tlength\n");
+    let first = put_header(out);
     let last = put_rows(out, first, table, rows);
     put_end(out, last, size, skipped)
 }
@@ -245,7 +156,7 @@ fn write_rows(out: &mut [u8], table: &[u32], rows: usize, size: u32, skipped: u3
 // Writes the text of the first rows of a table, three numbers each, with the size of the input and its skipped bytes on the last line.
 // Of more rows than the table holds, or than 8,192, it writes none.
 pub fn write_table(out: &mut [u8], table: &[u32], rows: usize, size: u32, skipped: u32) -> Written
-    ensures { λ r. ⌜ Writes 0 (tableText (heldRows rows (now (table .entry))) (now (table .entry)) size skipped) (now (out .entry)) r (now (out .exit)) ⌝ }
+    ensures { λ r. ⌜ Writes 0 (heldText rows (now (table .entry)) size skipped) (now (out .entry)) r (now (out .exit)) ⌝ }
 {
     let held = held_rows(table, rows);
     write_rows(out, table, held, size, skipped)

@@ -1,4 +1,5 @@
--- `listing_gather::gather` meets its contract. The loop keeps that what was gathered so far is some input; each turn gathers a byte at least.
+-- `listing_gather::gather` meets its contract.
+-- The loop keeps that what was gathered so far is some input; each turn gathers a byte at least.
 use mathlib.Core.Path.{_≡_, refl, ap, _∙_}
 use Prim.Native.Nat.{_≤_, _-_}
 use native.Mathlib.Omega.{arith}
@@ -39,7 +40,8 @@ same-length-2 c = search needs
 
 returns-2 : tie.Need-returns-2 Inv-loop μ-loop
 returns-2 c =
-    let read = c .before .before .before .before in let l = read .before .before .before .loop in let r = read .read-block in
+    let read = c .before .before .before .before in
+    let l = read .before .before .before .loop in let r = read .read-block in
     gathers-failed (l .inv .3) (r .ensures .1 ∙ l .inv .2)
 
 same-length-3 : tie.Need-same-length-3 Inv-loop μ-loop
@@ -50,12 +52,14 @@ same-length-4 c = search needs
 
 returns-3 : tie.Need-returns-3 Inv-loop μ-loop
 returns-3 c =
-    let read = c .before .before .before .before .before .before in let l = read .before .before .before .loop in let r = read .read-block in
+    let read = c .before .before .before .before .before .before in
+    let l = read .before .before .before .loop in let r = read .read-block in
     gathers-all (l .inv .3) (r .ensures .1 ∙ l .inv .2) (omega arith)
 
 append-requires : tie.Need-append-requires Inv-loop μ-loop
 append-requires c κs =
-    let told = c .before .before .before .before in let read = told .before .before .before .before in let l = read .before .before .before .loop in let r = read .read-block in
+    let told = c .before .before .before .before in let read = told .before .before .before .before in
+    let l = read .before .before .before .loop in let r = read .read-block in
     (omega (arith, l .inv .0, l .inv .1), read-within _ (r .ensures .0) (told .input .given .1))
 
 loop-less : tie.Need-loop-less Inv-loop μ-loop
@@ -66,7 +70,8 @@ loop-less c =
 
 loop-again : tie.Need-loop-again Inv-loop μ-loop
 loop-again c =
-    let appended = c .before .before in let read = appended .before .before .before .before .before .before .before .before .before in let l = read .before .before .before .loop in let r = read .read-block in
+    let appended = c .before .before in let read = appended .before .before .before .before .before .before .before .before .before in
+    let l = read .before .before .before .loop in let r = read .read-block in
     let e = appended .append .ensures in
     let g = gathered-more (l .inv .3) (e .puts) (omega (arith, e .within)) in
     (omega (arith, e .within), puts-length (e .puts) ∙ l .inv .1, r .ensures .1 ∙ l .inv .2, g)

@@ -1,35 +1,24 @@
 -- `listing_table::put_end` meets its contract: the word, then the numbers.
-use Rattle.listing.proofs.LineLaws.{length-end}
 use native.Mathlib.Omega.{arith}
 use Rattle.listing.specs.Lines.{endLine}
-use Rattle.listing.proofs.PutLaws.{puts-then, puts-length}
+use Rattle.listing.proofs.PutLaws.{lays-puts}
 use borrow.Author.Needs.{needs}
 use Rattle.listing_table.proofs.put_end.Statement.{statement}
 use Rattle.listing_table.proofs.put_end.Tie as tie
+use Rattle.listing_lines.proofs.put_line.Reads as put-line-reads
 
-slice-aggregate-put-text : tie.Need-slice-aggregate-put-text
-slice-aggregate-put-text c = search needs
+slice-aggregate-put-line : tie.Need-slice-aggregate-put-line
+slice-aggregate-put-line c = search needs
 
-put-text-requires : tie.Need-put-text-requires
-put-text-requires c κs =
-    let a = c .before .before .before .args in
-    omega (arith, length-end (a .size) (a .skipped))
-
-put-fields-requires : tie.Need-put-fields-requires
-put-fields-requires c κs =
-    let word = c .before .before .before in let a = word .before .before .before .before .args in let e = word .put-text .ensures in
-    omega (arith, length-end (a .size) (a .skipped), e .ends, puts-length e)
+put-line-requires : tie.Need-put-line-requires
+put-line-requires c κs = search needs
 
 same-length : tie.Need-same-length
 same-length c = search needs
 
 returns : tie.Need-returns
 unfolding endLine
-returns c =
-    let numbers = c .before .before in let word = numbers .before .before .before .before in
-    puts-then (word .put-text .ensures) (numbers .put-fields .ensures)
+returns c = lays-puts (c .before .before .put-line .ensures) (omega arith)
 
 pub put-end-spec : {M : Type 1} → statement M
-put-end-spec =
-    tie.close
-    (tie.spec slice-aggregate-put-text put-text-requires put-fields-requires same-length returns)
+put-end-spec = tie.close (tie.spec slice-aggregate-put-line put-line-requires same-length returns)

@@ -1,10 +1,11 @@
 -- `listing_table::put_row` meets its contract: the letter, then the numbers.
 use native.Mathlib.Omega.{arith}
-use Rattle.listing.proofs.PutLaws.{puts-length}
-use Rattle.listing.proofs.LineLaws.{puts-row, length-row-at}
+use Rattle.listing.proofs.LineLaws.{puts-row}
 use borrow.Author.Needs.{needs}
 use Rattle.listing_table.proofs.put_row.Statement.{statement}
 use Rattle.listing_table.proofs.put_row.Tie as tie
+use Rattle.listing_lines.proofs.put_line.Reads as put-line-reads
+use Rattle.listing_table.proofs.letter_of.Reads as letter-of-reads
 
 add-letter-of : tie.Need-add-letter-of
 add-letter-of c = search needs
@@ -18,38 +19,35 @@ shared-slice-read-letter-of c = search needs
 letter-of-requires : tie.Need-letter-of-requires
 letter-of-requires c κs = search needs
 
-put-byte-requires : tie.Need-put-byte-requires
-put-byte-requires c κs =
-    let a = c .before .before .before .before .before .args in
-    omega (arith, length-row-at (a .table .now) (a .index))
+slice-aggregate-put-line : tie.Need-slice-aggregate-put-line
+slice-aggregate-put-line c = search needs
 
-mul-put-fields : tie.Need-mul-put-fields
-mul-put-fields c = search needs
+mul-put-line : tie.Need-mul-put-line
+mul-put-line c = search needs
 
-shared-slice-read-put-fields : tie.Need-shared-slice-read-put-fields
-shared-slice-read-put-fields c = search needs
+shared-slice-read-put-line : tie.Need-shared-slice-read-put-line
+shared-slice-read-put-line c = search needs
 
-add-put-fields : tie.Need-add-put-fields
-add-put-fields c = search needs
+add-put-line : tie.Need-add-put-line
+add-put-line c = search needs
 
-mul-put-fields-2 : tie.Need-mul-put-fields-2
-mul-put-fields-2 c = search needs
+mul-put-line-2 : tie.Need-mul-put-line-2
+mul-put-line-2 c = search needs
 
-shared-slice-read-put-fields-2 : tie.Need-shared-slice-read-put-fields-2
-shared-slice-read-put-fields-2 c = search needs
+shared-slice-read-put-line-2 : tie.Need-shared-slice-read-put-line-2
+shared-slice-read-put-line-2 c = search needs
 
-put-fields-requires : tie.Need-put-fields-requires
-put-fields-requires c κs =
-    let letter = c .before .before .before .before .before in let a = letter .before .before .before .before .before .before .args in let e = letter .put-byte .ensures in
-    omega (arith, length-row-at (a .table .now) (a .index), e .ends, puts-length e)
+put-line-requires : tie.Need-put-line-requires
+put-line-requires c κs = search needs
 
 same-length : tie.Need-same-length
 same-length c = search needs
 
 returns : tie.Need-returns
 returns c =
-    let numbers = c .before .before in let letter = numbers .before .before .before .before .before .before in let kind = letter .before .before in let a = kind .before .before .before .before .args in
-    puts-row (a .table .now) (a .index) _ (kind .letter-of .ensures) (letter .put-byte .ensures) (numbers .put-fields .ensures)
+    let line = c .before .before in let kind = line .before .before .before .before .before in
+    let a = kind .before .before .before .before .args in
+    puts-row (a .table .now) (a .index) _ (kind .letter-of .ensures) (line .put-line .ensures) (omega arith)
 
 pub put-row-spec : {M : Type 1} → statement M
 put-row-spec =
@@ -59,12 +57,12 @@ put-row-spec =
     mul-letter-of
     shared-slice-read-letter-of
     letter-of-requires
-    put-byte-requires
-    mul-put-fields
-    shared-slice-read-put-fields
-    add-put-fields
-    mul-put-fields-2
-    shared-slice-read-put-fields-2
-    put-fields-requires
+    slice-aggregate-put-line
+    mul-put-line
+    shared-slice-read-put-line
+    add-put-line
+    mul-put-line-2
+    shared-slice-read-put-line-2
+    put-line-requires
     same-length
     returns)

@@ -33,7 +33,8 @@ loop-less c = search needs
 
 loop-again : tie.Need-loop-again Inv-loop μ-loop
 loop-again c =
-    let row = c .before .before in let at-loop = row .before .before .before in let l = at-loop .loop in let a = at-loop .before .before .before .args in
+    let row = c .before .before in let at-loop = row .before .before .before in
+    let l = at-loop .loop in let a = at-loop .before .before .before .args in
     let e = row .put-row .ensures in
     listing-next (a .table .now) (a .out .now) (a .from) (a .rows) _ _ (l .i) _ _ (l .inv) (omega arith) e (puts-length e)
 

@@ -1,8 +1,8 @@
--- `listing_table::put_byte` meets its contract: one store.
+-- `listing_lines::put_byte` meets its contract: one store.
 use Rattle.listing.proofs.PutLaws.{puts-byte}
 use borrow.Author.Needs.{needs}
-use Rattle.listing_table.proofs.put_byte.Statement.{statement}
-use Rattle.listing_table.proofs.put_byte.Tie as tie
+use Rattle.listing_lines.proofs.put_byte.Statement.{statement}
+use Rattle.listing_lines.proofs.put_byte.Tie as tie
 
 slice-write-out : tie.Need-slice-write-out
 slice-write-out c = search needs

@@ -1,11 +1,11 @@
--- `listing_table::put_fields` meets its contract: two fields and the end of the line.
+-- `listing_lines::put_fields` meets its contract: two fields and the end of the line.
 use native.Mathlib.Omega.{arith}
 use Rattle.listing.specs.Lines.{fields}
 use Rattle.listing.proofs.LineLaws.{length-field, length-fields}
 use Rattle.listing.proofs.PutLaws.{puts-then, puts-length}
 use borrow.Author.Needs.{needs}
-use Rattle.listing_table.proofs.put_fields.Statement.{statement}
-use Rattle.listing_table.proofs.put_fields.Tie as tie
+use Rattle.listing_lines.proofs.put_fields.Statement.{statement}
+use Rattle.listing_lines.proofs.put_fields.Tie as tie
 
 put-field-requires : tie.Need-put-field-requires
 put-field-requires c κs =
@@ -19,7 +19,8 @@ put-field-requires-2 c κs =
 
 put-byte-requires : tie.Need-put-byte-requires
 put-byte-requires c κs =
-    let second = c .before .before .before in let first = second .before .before .before .before in let a = first .before .before .before .args in
+    let second = c .before .before .before in
+    let first = second .before .before .before .before in let a = first .before .before .before .args in
     let e = first .put-field .ensures in let f = second .put-field2 .ensures in
     omega (arith, length-fields (a .a) (a .b), length-field (a .a), length-field (a .b), e .ends, f .ends, puts-length e, puts-length f)
 
@@ -29,7 +30,8 @@ same-length c = search needs
 returns : tie.Need-returns
 unfolding fields
 returns c =
-    let last = c .before .before in let second = last .before .before .before .before in let first = second .before .before .before .before in
+    let last = c .before .before in let second = last .before .before .before .before in
+    let first = second .before .before .before .before in
     puts-then (first .put-field .ensures) (puts-then (second .put-field2 .ensures) (last .put-byte .ensures))
 
 pub put-fields-spec : {M : Type 1} → statement M

@@ -1,10 +1,10 @@
--- `listing_table::fields_size` meets its contract: two tabs, two widths, a line feed.
+-- `listing_lines::fields_size` meets its contract: two tabs, two widths, a line feed.
 use native.Mathlib.Omega.{arith}
 use Rattle.listing.proofs.LineLaws.{length-fields}
 use Rattle.listing.proofs.DecimalLaws.{width-most}
 use borrow.Author.Needs.{needs}
-use Rattle.listing_table.proofs.fields_size.Statement.{statement}
-use Rattle.listing_table.proofs.fields_size.Tie as tie
+use Rattle.listing_lines.proofs.fields_size.Statement.{statement}
+use Rattle.listing_lines.proofs.fields_size.Tie as tie
 
 width-of-requires : tie.Need-width-of-requires
 width-of-requires c κs = search needs

@@ -1,12 +1,12 @@
--- `listing_table::put_field` meets its contract: a tab, then the number.
+-- `listing_lines::put_field` meets its contract: a tab, then the number.
 use native.Mathlib.Omega.{arith}
 use Rattle.listing.proofs.DecimalLaws.{length-decimal}
 use Rattle.listing.proofs.LineLaws.{length-field}
 use Rattle.listing.specs.Lines.{field}
 use Rattle.listing.proofs.PutLaws.{puts-then, puts-length}
 use borrow.Author.Needs.{needs}
-use Rattle.listing_table.proofs.put_field.Statement.{statement}
-use Rattle.listing_table.proofs.put_field.Tie as tie
+use Rattle.listing_lines.proofs.put_field.Statement.{statement}
+use Rattle.listing_lines.proofs.put_field.Tie as tie
 
 put-byte-requires : tie.Need-put-byte-requires
 put-byte-requires c κs = omega (arith, length-field (c .before .before .args .v))

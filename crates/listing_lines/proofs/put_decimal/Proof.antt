@@ -1,4 +1,4 @@
--- `listing_table::put_decimal` meets its contract. The loop keeps that storing the digits that are left completes the number.
+-- `listing_lines::put_decimal` meets its contract. The loop keeps that storing the digits that are left completes the number.
 use mathlib.Core.Path.{refl, ap, sym, _≡_, _∙_}
 use Prim.Native.Nat.{ℕ, _≤_, _-_}
 use lib.ListN.{length-set, length}
@@ -7,8 +7,8 @@ use native.Mathlib.Omega.{arith}
 use Rattle.digits.specs.Stores.{stored}
 use Rattle.listing.proofs.DecimalLaws.{digit-step, digits-over, length-decimal}
 use borrow.Author.Needs.{needs}
-use Rattle.listing_table.proofs.put_decimal.Statement.{statement}
-use Rattle.listing_table.proofs.put_decimal.Tie as tie
+use Rattle.listing_lines.proofs.put_decimal.Statement.{statement}
+use Rattle.listing_lines.proofs.put_decimal.Tie as tie
 
 abbrev Inv-loop : tie.InvT-loop
 Inv-loop out₀ at v n left₀ rest₀ out left rest =

@@ -1,9 +1,9 @@
--- `listing_table::width_of` meets its contract: the tests of the code are those of the definition.
+-- `listing_lines::width_of` meets its contract: the tests of the code are those of the definition.
 use borrow.Author.Needs.{needs}
 use borrow.Author.Tests.{lt-ltb, le-ltb}
 use Rattle.listing.specs.Decimal.{width}
-use Rattle.listing_table.proofs.width_of.Statement.{statement}
-use Rattle.listing_table.proofs.width_of.Tie as tie
+use Rattle.listing_lines.proofs.width_of.Statement.{statement}
+use Rattle.listing_lines.proofs.width_of.Tie as tie
 
 returns : tie.Need-returns
 unfolding width

@@ -1,10 +1,10 @@
--- `listing_table::put_text` meets its contract: the text fits, so it is stored.
+-- `listing_lines::put_text` meets its contract: the text fits, so it is stored.
 use mathlib.Core.Path.{refl, _∙_}
 use native.Mathlib.Omega.{arith}
 use Rattle.listing.proofs.PutLaws.{puts-within}
 use borrow.Author.Needs.{needs}
-use Rattle.listing_table.proofs.put_text.Statement.{statement}
-use Rattle.listing_table.proofs.put_text.Tie as tie
+use Rattle.listing_lines.proofs.put_text.Statement.{statement}
+use Rattle.listing_lines.proofs.put_text.Tie as tie
 
 put-bytes-requires : tie.Need-put-bytes-requires
 put-bytes-requires c κs = search needs
