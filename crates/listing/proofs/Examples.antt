@@ -14,5 +14,6 @@ use Rattle.listing.specs.Example.{exampleInput, exampleOutput}
 
 -- paper 01's 25 bytes have paper 01's four lines
 pub example-listed : listing Sirad exampleInput ≡ exampleOutput
-unfolding listing listed closedReading headerLine rowLines rowLine endLine fields field decimal decimals width read judge formOf sirad _>>=_ body number digit lay classes characters
+unfolding listing listed closedReading headerLine rowLines rowLine endLine fields field decimal decimals width read judge formOf sirad
+    _>>=_ body number digit lay classes characters
 example-listed = refl

@@ -18,9 +18,11 @@ use Rattle.reading.proofs.Prefix.{bad-waits, whole-waits}
 -- -- Readings that start n bytes further on
 
 shifted-place : (closed : Bool) (j : Judgement) (n at room : ℕ) (go go′ : ℕ → ℕ → Reading)
-    → ((pass left : ℕ) → go pass left ≡ shifted n (go′ pass left)) → onPlace closed j (n + at) room go ≡ shifted n (onPlace closed j at room go′)
+    → ((pass left : ℕ) → go pass left ≡ shifted n (go′ pass left))
+    → onPlace closed j (n + at) room go ≡ shifted n (onPlace closed j at room go′)
 shifted-place closed (Whole k m) n at zero go go′ same = refl
-shifted-place closed (Whole k m) n at (suc room) go go′ same = ap (found (record { offset = n + at; size = m; kind = k })) (same (m - 1) room)
+shifted-place closed (Whole k m) n at (suc room) go go′ same = ap (found (record { offset = n + at; size = m; kind = k }))
+    (same (m - 1) room)
 shifted-place closed (Bad r) n at room go go′ same = ap skip (same 0 room)
 shifted-place false Waiting n at room go go′ same = refl
 shifted-place true Waiting n at room go go′ same = ap skip (same 0 room)
@@ -39,8 +41,10 @@ shifted-read judge closed n (suc pass) at room (b ∷ bs) =
     ap (λ (i : ℕ). read judge closed pass i room bs) e ∙ shifted-read judge closed n pass (at + 1) room bs
 
 -- the same from the start of the bytes
-shifted-start : (judge : List ℕ → Judgement) (closed : Bool) (n room : ℕ) (bs : List ℕ) → read judge closed 0 n room bs ≡ shifted n (reading judge closed room bs)
-shifted-start judge closed n room bs = ap (λ (i : ℕ). read judge closed 0 i room bs) (sym (add-zero n)) ∙ shifted-read judge closed n 0 0 room bs
+shifted-start : (judge : List ℕ → Judgement) (closed : Bool) (n room : ℕ) (bs : List ℕ)
+    → read judge closed 0 n room bs ≡ shifted n (reading judge closed room bs)
+shifted-start judge closed n room bs = ap (λ (i : ℕ). read judge closed 0 i room bs) (sym (add-zero n))
+    ∙ shifted-read judge closed n 0 0 room bs
 
 -- -- Joined readings
 
@@ -88,7 +92,8 @@ rest-stop judge closed at more state bs = ap (read judge closed 0 at more) (drop
 
 -- what comes behind a reading from the byte behind b on, seen from b
 rest-behind : (judge : List ℕ → Judgement) (closed : Bool) (pass at room more b : ℕ) (cs bs : List ℕ)
-    → let next = read judge closed pass (at + 1) room cs .next in rest judge closed (at + 1) more bs next ≡ rest judge closed at more (b ∷ bs) next
+    → let next = read judge closed pass (at + 1) room cs .next in rest judge closed (at + 1) more bs next ≡ rest judge closed at more
+    (b ∷ bs) next
 rest-behind judge closed pass at room more b cs bs =
     let next = read judge closed pass (at + 1) room cs .next in
     ap (read judge closed 0 next more) (drop-behind at next b bs (stops-behind judge closed pass (at + 1) room cs))
@@ -140,16 +145,19 @@ module _ (judge : List ℕ → Judgement) (L : Lawful judge) (closed : Bool) (B 
 
   -- the same from the start, with the offsets of what comes behind shifted
   resumes-start : (room more : ℕ) (A : List ℕ) → let r = reading judge closed room A in
-      reading judge closed (length (r .rows) + more) (A ++ B) ≡ joined r (shifted (r .next) (reading judge closed more (drop (r .next) (A ++ B))))
+      reading judge closed (length (r .rows) + more) (A ++ B) ≡ joined r
+      (shifted (r .next) (reading judge closed more (drop (r .next) (A ++ B))))
   resumes-start room more A =
       let r = reading judge closed room A in
       resumes 0 0 room more A (omega arith)
       ∙ ap (joined r) (rw sub-zero (shifted-start judge closed (r .next) more (drop (r .next) (A ++ B))))
 
--- the open reading of A followed by B is that of A, and then the open reading from its next offset on, shifted: whether A's stopped to wait or for
+-- the open reading of A followed by B is that of A, and then the open reading from its next offset on, shifted: whether A's stopped to
+-- wait or for
 -- want of a row
 pub open-resumes : (judge : List ℕ → Judgement) → Lawful judge → (room more : ℕ) (A B : List ℕ) → let r = reading judge false room A in
-    reading judge false (length (r .rows) + more) (A ++ B) ≡ joined r (shifted (r .next) (reading judge false more (drop (r .next) (A ++ B))))
+    reading judge false (length (r .rows) + more) (A ++ B) ≡ joined r
+    (shifted (r .next) (reading judge false more (drop (r .next) (A ++ B))))
 open-resumes judge L room more A B = resumes-start judge L false B (λ e. absurd (true-false e refl)) room more A
 
 -- a closed reading that stopped for want of a row goes on in the same way with more room, on the same bytes

@@ -11,7 +11,7 @@ use Rattle.digits.specs.Hex.{digit}
 use Rattle.digits.proofs.Choices.{both-ways}
 use Rattle.digits.proofs.HexLaws.{Hexness, low, high, none, hexness}
 use Rattle.form.specs.declared.Judgement.the-variants.{Whole, Bad, Waiting}
-use Rattle.form.specs.Form.{byte, _>>=_, judge, judgeAt}
+use Rattle.form.specs.Form.{byte, judge, judgeAt}
 use Rattle.form.proofs.PieceLaws.{byte-step, byte-ends}
 use Rattle.sirad.specs.Sirad.{number}
 

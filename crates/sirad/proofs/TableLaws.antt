@@ -13,7 +13,7 @@ use lib.Seq.{length-take-le}
 use Rattle.digits.specs.Hex.{hexAt}
 use Rattle.digits.proofs.Choices.{test}
 use Rattle.form.specs.declared.Judgement.the-variants.{Whole}
-use Rattle.form.specs.Form.{_>>=_, judge, Frame, Stands}
+use Rattle.form.specs.Form.{judge, Frame, Stands}
 use Rattle.form.proofs.Theorems.{judged-frame, judged-stands, frame-whole}
 use Rattle.sirad.specs.declared.Class.{Class}
 use Rattle.sirad.specs.declared.Class.the-variants.{Hex, Char, Cr, Lf}

@@ -22,7 +22,8 @@ slice-relend-prefix-part : tie.Need-slice-relend-prefix-part
 slice-relend-prefix-part c = search needs
 
 slice-aggregate-part : tie.Need-slice-aggregate-part
-slice-aggregate-part c = let a = c .before .before .before .before .before .before .before .args in sym (length-take-le (a .size) (a .table .now) (omega arith))
+slice-aggregate-part c = let a = c .before .before .before .before .before .before .before .args in sym
+    (length-take-le (a .size) (a .table .now) (omega arith))
 
 read-into-requires : tie.Need-read-into-requires
 read-into-requires c κs = search needs

@@ -1,4 +1,5 @@
--- `capture_lines::choose_line` meets its contract. The chosen part lies in the line that `line_of` hands back, and the answer is that part of it.
+-- `capture_lines::choose_line` meets its contract. The chosen part lies in the line that `line_of` hands back, and the answer is that part
+-- of it.
 use mathlib.Core.Path.{refl}
 use native.Mathlib.Omega.{arith}
 use borrow.Author.Needs.{needs}

@@ -1,5 +1,7 @@
--- `capture_lines::line_of` meets its contract: a walk of its MIR, by hand. The one slice or the other is handed back, at the lifetime of the first.
--- A `&` slice is Copy: what the one owns is had twice, one copy is kept for the exit, and the other is the result's. The second slice's is shortened by the signature's bound.
+-- `capture_lines::line_of` meets its contract: a walk of its MIR, by hand. The one slice or the other is handed back, at the lifetime of
+-- the first.
+-- A `&` slice is Copy: what the one owns is had twice, one copy is kept for the exit, and the other is the result's. The second slice's is
+-- shortened by the signature's bound.
 -- Assumes nothing.
 use mathlib.Core.Path.{_≡_, refl}
 use mathlib.Core.Bool.{Bool, true, false, cond, not}
@@ -20,7 +22,30 @@ use contract.Lifetimes.{Lfts, AllOutlive}
 use contract.Monad.{Fun}
 use contract.Running.{givenOf, tables, tablesOf}
 use types.Kit.{Given, ‵, _⊛_, atRet, _$_, _∵_, !, qed, by, move, use1, split, fsplit, fsplit3, fjoin, fjoin3, suffices, frame, done}
-use types.Run.{look, init, forget, stop, from, load, of-opd, assigns, first, branches, skips, exec, returns, returns-within, enter, alloc1, alloc0, params1, pass1, pass0, free1, free0}
+use types.Run.{
+  look,
+  init,
+  forget,
+  stop,
+  from,
+  load,
+  of-opd,
+  assigns,
+  first,
+  branches,
+  skips,
+  exec,
+  returns,
+  returns-within,
+  enter,
+  alloc1,
+  alloc0,
+  params1,
+  pass1,
+  pass0,
+  free1,
+  free0,
+}
 use types.Tokens.{shr-bor-shorten}
 use sound.WpLaws.{WpFn-mono}
 use denote.RattleType.{owns}
@@ -42,7 +67,10 @@ use Rattle.capture_lines.proofs.line_of.Code as code
 use Rattle.capture_lines.proofs.line_of.Code.Mir.{t-3}
 
 abbrev stayed : Stays (line-of.ended .signature .params) (line-of.ended .kept)
-stayed = (stay-none-slice (0 ∷ []) tt (plain (λ _. u8)) yes, (stay-none-slice (1 ∷ []) tt (plain (λ _. u8)) yes, (stay-none (λ _. bool) yes, tt)))
+stayed = (
+  stay-none-slice (0 ∷ []) tt (plain (λ _. u8)) yes,
+  (stay-none-slice (1 ∷ []) tt (plain (λ _. u8)) yes, (stay-none (λ _. bool) yes, tt)),
+)
 
 is-standby : (t : Bool) (xs ys : RefT (List ℕ)) → Holds t → ys ≡ cond t ys xs
 is-standby true xs ys h = refl
@@ -82,20 +110,24 @@ module _ {M : Type 1} (𝓤 : URA M) (H : Heap 𝓤) (A : Atoms 𝓤) (W : Given
     Short = ShrSlice (named 0) κ u8 .own y (vy ∷ [])
 
     shortens : ent 𝓤 (sem 𝓤 H A Standby) (sem 𝓤 H A Short)
-    shortens = qed W (‵ Standby ∷ []) ∵ fsplit3 ! $ move ! (2 ∷ []) $ shr-bor-shorten ! κ (b .0) $ move ! (1 ∷ 2 ∷ 0 ∷ []) $ fjoin3 ! $ done !
+    shortens = qed W (‵ Standby ∷ []) ∵ fsplit3 ! $ move ! (2 ∷ []) $ shr-bor-shorten ! κ (b .0) $ move ! (1 ∷ 2 ∷ 0 ∷ []) $ fjoin3 ! $
+        done !
 
     exits-standby : Holds t → ent 𝓤 (onEntry 𝓤 H A line-of.signature κs (q, (q′, tt)) (x, (y, (t, tt))) at) (Post vy)
     exits-standby h =
-        qed W ((‵ (flft κ q) ⊛ ‵ (flft κ′ q′) ⊛ ‵ ftrue) ∷ ‵ (owns (ShrSlice (named 0) κ u8 ∷ ShrSlice (named 1) κ′ u8 ∷ bool ∷ []) (x, (y, (t, tt))) at) ∷ []) ∵
+        qed W ((‵ (flft κ q) ⊛ ‵ (flft κ′ q′) ⊛ ‵ ftrue) ∷ ‵
+        (owns (ShrSlice (named 0) κ u8 ∷ ShrSlice (named 1) κ′ u8 ∷ bool ∷ []) (x, (y, (t, tt))) at) ∷ []) ∵
         suffices ! _
         (ends-at 𝓤 H A line-of.ended stayed (line-of.clauses 𝓤 H A mem run) W ((κs, (q, (q′, tt)), b, (x, (y, (t, tt))), at), tt) vy y
         (tt, (tt, (tt, tt))) (tt, (tt, (tt, tt)))) $ says ! (is-standby t x y h) $
-        frame ! $ fsplit3 ! $ move ! (1 ∷ []) $ use1 W (‵ Standby ⊛ ‵ Standby) (shr-slice-copy 𝓤 H A W (named 1) κ′ u8 .twice y (vy ∷ [])) $ split ! $
+        frame ! $ fsplit3 ! $ move ! (1 ∷ []) $ use1 W (‵ Standby ⊛ ‵ Standby) (shr-slice-copy 𝓤 H A W (named 1) κ′ u8 .twice y (vy ∷ []))
+        $ split ! $
         move ! (2 ∷ 0 ∷ 3 ∷ []) $ fjoin3 ! $ frame ! $ use1 W (‵ Short) shortens $ done !
 
     exits-main : Holds (not t) → ent 𝓤 (onEntry 𝓤 H A line-of.signature κs (q, (q′, tt)) (x, (y, (t, tt))) at) (Post vx)
     exits-main h =
-        qed W ((‵ (flft κ q) ⊛ ‵ (flft κ′ q′) ⊛ ‵ ftrue) ∷ ‵ (owns (ShrSlice (named 0) κ u8 ∷ ShrSlice (named 1) κ′ u8 ∷ bool ∷ []) (x, (y, (t, tt))) at) ∷ []) ∵
+        qed W ((‵ (flft κ q) ⊛ ‵ (flft κ′ q′) ⊛ ‵ ftrue) ∷ ‵
+        (owns (ShrSlice (named 0) κ u8 ∷ ShrSlice (named 1) κ′ u8 ∷ bool ∷ []) (x, (y, (t, tt))) at) ∷ []) ∵
         suffices ! _
         (ends-at 𝓤 H A line-of.ended stayed (line-of.clauses 𝓤 H A mem run) W ((κs, (q, (q′, tt)), b, (x, (y, (t, tt))), at), tt) vx x
         (tt, (tt, (tt, tt))) (tt, (tt, (tt, tt)))) $ says ! (is-main t x y h) $
@@ -123,29 +155,38 @@ module _ {M : Type 1} (𝓤 : URA M) (H : Heap 𝓤) (A : Atoms 𝓤) (W : Given
           pass1 ! (init ! 2 refl (tt, tt)) $ pass0 ! $
           assigns ! (of-opd ! (load ! (from ! (stop !)) (look ! 2 refl))) (from ! (stop !)) (init ! 0 refl (tt, tt)) $
           first ! $ branches ! (load ! (from ! (stop !)) (look ! 0 refl))
-          (λ h. assigns ! (of-opd ! (load ! (from ! (stop !)) (look ! 4 refl))) (from ! (stop !)) (init ! 8 refl (shr-slice-lawful 𝓤 H A W (named 0) κ u8 .typed y (vy ∷ []) py .0)) $
-          returns-within ! Post refl (look ! 8 refl) $ forget ! 0 refl $ forget ! 2 refl $ forget ! 4 refl $ forget ! 6 refl $ forget ! 8 refl $
-          move ! (8 ∷ 9 ∷ []) $ free1 ! $ move ! (6 ∷ 7 ∷ []) $ free1 ! $ move ! (4 ∷ 5 ∷ []) $ free1 ! $ move ! (2 ∷ 3 ∷ []) $ free1 ! $ free1 ! $ free0 ! $ by ! (exits-standby h))
+          (λ h. assigns ! (of-opd ! (load ! (from ! (stop !)) (look ! 4 refl))) (from ! (stop !))
+          (init ! 8 refl (shr-slice-lawful 𝓤 H A W (named 0) κ u8 .typed y (vy ∷ []) py .0)) $
+          returns-within ! Post refl (look ! 8 refl) $ forget ! 0 refl $ forget ! 2 refl $ forget ! 4 refl $ forget ! 6 refl $ forget ! 8
+          refl $
+          move ! (8 ∷ 9 ∷ []) $ free1 ! $ move ! (6 ∷ 7 ∷ []) $ free1 ! $ move ! (4 ∷ 5 ∷ []) $ free1 ! $ move ! (2 ∷ 3 ∷ []) $ free1 ! $
+          free1 ! $ free0 ! $ by ! (exits-standby h))
           (λ h. skips ! $ exec ! C Λ (En l₀ l₁ l₂ l₃ l₄) t-3 (atRet (En l₀ l₁ l₂ l₃ l₄) Post) $
-          assigns ! (of-opd ! (load ! (from ! (stop !)) (look ! 6 refl))) (from ! (stop !)) (init ! 8 refl (shr-slice-lawful 𝓤 H A W (named 0) κ u8 .typed x (vx ∷ []) px .0)) $
+          assigns ! (of-opd ! (load ! (from ! (stop !)) (look ! 6 refl))) (from ! (stop !))
+          (init ! 8 refl (shr-slice-lawful 𝓤 H A W (named 0) κ u8 .typed x (vx ∷ []) px .0)) $
           returns ! (look ! 8 refl) $ forget ! 0 refl $ forget ! 2 refl $ forget ! 4 refl $ forget ! 6 refl $ forget ! 8 refl $
-          move ! (8 ∷ 9 ∷ []) $ free1 ! $ move ! (6 ∷ 7 ∷ []) $ free1 ! $ move ! (4 ∷ 5 ∷ []) $ free1 ! $ move ! (2 ∷ 3 ∷ []) $ free1 ! $ free1 ! $ free0 ! $ by ! (exits-main h)))))))
+          move ! (8 ∷ 9 ∷ []) $ free1 ! $ move ! (6 ∷ 7 ∷ []) $ free1 ! $ move ! (4 ∷ 5 ∷ []) $ free1 ! $ move ! (2 ∷ 3 ∷ []) $ free1 ! $
+          free1 ! $ free0 ! $ by ! (exits-main h)))))))
 
 module _ {M : Type 1} (𝓤 : URA M) (H : Heap 𝓤) (A : Atoms 𝓤) (W : Given 𝓤 H A) (mem : Memory → SProp 𝓤) (run : Routine → Fun 𝓤) where
-  line-of-walks : (C : Calls 𝓤 H) (Λ : Loops 𝓤 H) → Walks 𝓤 H A line-of.ended stayed (WpFn 𝓤 H C Λ code.function) (line-of.clauses 𝓤 H A mem run)
+  line-of-walks : (C : Calls 𝓤 H) (Λ : Loops 𝓤 H)
+      → Walks 𝓤 H A line-of.ended stayed (WpFn 𝓤 H C Λ code.function) (line-of.clauses 𝓤 H A mem run)
   line-of-walks C Λ = walked 𝓤 H A line-of.ended stayed (line-of.clauses 𝓤 H A mem run) (WpFn 𝓤 H C Λ code.function)
       (λ κs. (slice-vals, (slice-vals, (bool-vals, tt))))
       (λ κs. (shr-slice-tells (named 0) (κs .0) u8, (shr-slice-tells (named 1) (κs .1 .0) u8, (bool-tells, tt))))
-      (λ κs qs bounds a g are. via 𝓤 _ (fst∗ 𝓤 _ (emp 𝓤)) (walk 𝓤 H A W mem run (κs .0) (κs .1 .0) (qs .0) (qs .1 .0) bounds (a .0) (a .1 .0) (a .1 .1 .0) C Λ (are .0) (are .1 .0)))
+      (λ κs qs bounds a g are. via 𝓤 _ (fst∗ 𝓤 _ (emp 𝓤))
+      (walk 𝓤 H A W mem run (κs .0) (κs .1 .0) (qs .0) (qs .1 .0) bounds (a .0) (a .1 .0) (a .1 .1 .0) C Λ (are .0) (are .1 .0)))
 
-line-of-meets : {M : Type 1} (𝓤 : URA M) (H : Heap 𝓤) (A : Atoms 𝓤) → Given 𝓤 H A → (mem : Memory → SProp 𝓤) (run : Routine → Fun 𝓤) (𝓣 : Tables 𝓤 H)
+line-of-meets : {M : Type 1} (𝓤 : URA M) (H : Heap 𝓤) (A : Atoms 𝓤) → Given 𝓤 H A
+    → (mem : Memory → SProp 𝓤) (run : Routine → Fun 𝓤) (𝓣 : Tables 𝓤 H)
     → Meets 𝓤 H A line-of.signature (WpFn 𝓤 H (𝓣 .C) (𝓣 .Λ) code.function) (line-of.spec 𝓤 H A mem run)
 line-of-meets 𝓤 H A W mem run 𝓣 =
     walk-meets 𝓤 H A line-of.ended stayed W (
       goes-none-slice 𝓤 H A W 2 (0 ∷ []) tt (plain (λ _. u8)) yes,
       (goes-none-slice 𝓤 H A W 2 (1 ∷ []) tt (plain (λ _. u8)) yes, (goes-none 𝓤 H A W 2 (λ _. bool) yes (λ κs x f. refl), tt)),
     )
-    (line-of.clauses 𝓤 H A mem run) (WpFn 𝓤 H (𝓣 .C) (𝓣 .Λ) code.function) (WpFn-mono 𝓤 H (W .laws) 𝓣 code.function) (line-of-walks 𝓤 H A W mem run (𝓣 .C) (𝓣 .Λ))
+    (line-of.clauses 𝓤 H A mem run) (WpFn 𝓤 H (𝓣 .C) (𝓣 .Λ) code.function) (WpFn-mono 𝓤 H (W .laws) 𝓣 code.function)
+    (line-of-walks 𝓤 H A W mem run (𝓣 .C) (𝓣 .Λ))
 
 pub line-of-spec : {M : Type 1} → stated.statement M
 unfolding code.routine tablesOf

@@ -1,6 +1,6 @@
 -- `listing_gather::gather` meets its contract.
 -- The loop keeps that what was gathered so far is some input; each turn gathers a byte at least.
-use mathlib.Core.Path.{_≡_, refl, ap, _∙_}
+use mathlib.Core.Path.{_≡_, refl, _∙_}
 use Prim.Native.Nat.{_≤_, _-_}
 use native.Mathlib.Omega.{arith}
 use lib.ListN.{length}

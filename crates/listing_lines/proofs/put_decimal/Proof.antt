@@ -1,8 +1,8 @@
 -- `listing_lines::put_decimal` meets its contract. The loop keeps that storing the digits that are left completes the number.
 use mathlib.Core.Path.{refl, ap, sym, _≡_, _∙_}
-use Prim.Native.Nat.{ℕ, _≤_, _-_}
+use Prim.Native.Nat.{ℕ, _≤_}
 use lib.ListN.{length-set, length}
-use Rattle.listing.specs.Decimal.{width, decimals, decimal}
+use Rattle.listing.specs.Decimal.{decimals, decimal}
 use native.Mathlib.Omega.{arith}
 use Rattle.digits.specs.Stores.{stored}
 use Rattle.listing.proofs.DecimalLaws.{digit-step, digits-over, length-decimal}

@@ -1,5 +1,4 @@
 -- `listing_lines::put_text` meets its contract: the text fits, so it is stored.
-use mathlib.Core.Path.{refl, _∙_}
 use native.Mathlib.Omega.{arith}
 use Rattle.listing.proofs.PutLaws.{puts-within}
 use borrow.Author.Needs.{needs}

@@ -6,9 +6,6 @@ use Rattle.listing.proofs.LineLaws.{length-table-text, length-end, length-heade
 use borrow.Author.Needs.{needs}
 use Rattle.listing_table.proofs.put_all.Statement.{statement}
 use Rattle.listing_table.proofs.put_all.Tie as tie
-use Rattle.listing_table.proofs.put_end.Reads as put-end-reads
-use Rattle.listing_table.proofs.put_header.Reads as put-header-reads
-use Rattle.listing_table.proofs.put_rows.Reads as put-rows-reads
 
 put-header-requires : tie.Need-put-header-requires
 put-header-requires c κs =

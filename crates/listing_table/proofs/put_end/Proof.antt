@@ -5,7 +5,6 @@ use Rattle.listing.proofs.PutLaws.{lays-puts}
 use borrow.Author.Needs.{needs}
 use Rattle.listing_table.proofs.put_end.Statement.{statement}
 use Rattle.listing_table.proofs.put_end.Tie as tie
-use Rattle.listing_lines.proofs.put_line.Reads as put-line-reads
 
 slice-aggregate-put-line : tie.Need-slice-aggregate-put-line
 slice-aggregate-put-line c = search needs

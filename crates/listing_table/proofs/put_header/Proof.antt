@@ -5,7 +5,6 @@ use Rattle.listing.proofs.PutLaws.{puts-within}
 use borrow.Author.Needs.{needs}
 use Rattle.listing_table.proofs.put_header.Statement.{statement}
 use Rattle.listing_table.proofs.put_header.Tie as tie
-use Rattle.stores.proofs.put_bytes.Reads as put-bytes-reads
 
 slice-aggregate-put-bytes : tie.Need-slice-aggregate-put-bytes
 slice-aggregate-put-bytes c = search needs

@@ -4,8 +4,6 @@ use Rattle.listing.proofs.LineLaws.{puts-row}
 use borrow.Author.Needs.{needs}
 use Rattle.listing_table.proofs.put_row.Statement.{statement}
 use Rattle.listing_table.proofs.put_row.Tie as tie
-use Rattle.listing_lines.proofs.put_line.Reads as put-line-reads
-use Rattle.listing_table.proofs.letter_of.Reads as letter-of-reads
 
 add-letter-of : tie.Need-add-letter-of
 add-letter-of c = search needs

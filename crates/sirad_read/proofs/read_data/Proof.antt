@@ -61,7 +61,8 @@ returns-5 c =
     let whole = c .before .before .before .before .before in
     let judged = whole .before .before in
     let kind = same-size _ (judged .judge .ensures .answers) (whole .kind .given .1) (c .before .before .before .if1 .left) in
-    data-made (whole .kind .given .0 .0) _ (judged .before .before .args .frame .now) kind (omega arith) (omega arith) (c .number-at .ensures)
+    data-made (whole .kind .given .0 .0) _ (judged .before .before .args .frame .now) kind (omega arith) (omega arith)
+    (c .number-at .ensures)
 
 pub read-data-spec : {M : Type 1} → statement M
 read-data-spec =
