@@ -1,9 +1,10 @@
 #!/usr/bin/env python3
 """The slices that judge_cases reads, and the lines it prints of them, from paper 01 ("SiRad", "mmWave", "Judging a place", "Values at
-the edges") and documents 000 and 004 alone. `judge_cases.py stdin` writes the slices, each behind its length in four bytes.
+the edges"), paper 02 (i) and documents 000, 002 and 004 alone. `judge_cases.py stdin` writes the slices, each behind its length in four
+bytes.
 
 The judgement of a packet is read off the paper by searching: a length, a type or a record count passes if some choice of what
-follows ends so that L is the smallest multiple of 32 not below the end of the last record.
+follows ends so that L is the smallest multiple of 32 not below the end of the last record, or, for vital signs, that end itself.
 """
 
 import pathlib
@@ -59,7 +60,7 @@ def sirad(bs):
     return ("whole", kind, at)
 
 
-# -- mmWave
+# -- Packets
 
 MAGIC = bytes([0x02, 0x01, 0x04, 0x03, 0x06, 0x05, 0x08, 0x07])
 WAITING = ("waiting",)
@@ -69,79 +70,122 @@ def number(data, offset):
     return int.from_bytes(data[offset:offset + 4], "little")
 
 
-def legal(tag, objects, size):
-    """Is this payload length legal for the type?"""
-    if tag == 1:
-        return objects != 0 and size == 16 * objects
-    if tag == 7:
-        return objects != 0 and size == 4 * objects
-    if tag in (2, 3, 5):
-        return size % 2 == 0
-    if tag in (4, 8):
-        return size % 4 == 0
-    if tag == 6:
-        return size == 24
-    if tag == 9:
-        return size == 28
-    return True
+class MmWave:
+    kind = 16
+
+    def total(total):
+        return total % 32 == 0 and 64 <= total <= 32768
+
+    def objects(objects):
+        return True
+
+    def records(total, records):
+        return records <= 32 and 8 * records <= total - 40 and (records != 0 or total == 64)
+
+    def subframe(subframe):
+        return True
+
+    def legal(tag, objects, size):
+        """Is this payload length legal for the type?"""
+        if tag == 1:
+            return objects != 0 and size == 16 * objects
+        if tag == 7:
+            return objects != 0 and size == 4 * objects
+        if tag in (2, 3, 5):
+            return size % 2 == 0
+        if tag in (4, 8):
+            return size % 4 == 0
+        if tag == 6:
+            return size == 24
+        if tag == 9:
+            return size == 28
+        return True
+
+    def ends_well(end, total):
+        """Is the total length the smallest multiple of 32 not below the end?"""
+        return end <= total and -(-end // 32) * 32 == total
 
 
-def ends_well(end, total):
-    """Is the total length the smallest multiple of 32 not below the end?"""
-    return end <= total and -(-end // 32) * 32 == total
+class VitalSigns:
+    kind = 17
+
+    def total(total):
+        return total % 4 == 0 and 40 <= total <= 32768 and total != 44
+
+    def objects(objects):
+        return objects == 99
+
+    def records(total, records):
+        return records <= 32 and 8 * records <= total - 40 and (records == 0) == (total == 40)
+
+    def subframe(subframe):
+        return subframe == 0
+
+    def legal(tag, objects, size):
+        if tag in (1, 4):
+            return size == {1: 24, 4: 20}[tag]
+        return (tag == 2 and size % 4 == 0) or (tag == 3 and size % 16 == 0)
+
+    def ends_well(end, total):
+        return end == total
 
 
 @lru_cache(maxsize=None)
-def rest_can_end(place, records, total):
-    """Can so many records of any types and lengths from this place on end well? A free type has every length."""
+def some_end(dialect, least, total):
+    """Does some end, from the least on by what a payload of one record can add, end well? mmWave's free types have every length; all
+    lengths of vital signs are multiples of 4, and type 2 has each of them."""
+    return any(dialect.ends_well(end, total) for end in range(least, total + 1, 1 if dialect is MmWave else 4))
+
+
+def rest_can_end(dialect, place, records, total):
+    """Can so many records of any types and lengths from this place on end well?"""
     if records == 0:
-        return ends_well(place, total)
-    return any(ends_well(end, total) for end in range(total, place + 8 * records - 1, -1))
+        return dialect.ends_well(place, total)
+    return some_end(dialect, place + 8 * records, total)
 
 
 @lru_cache(maxsize=None)
-def some_length(tag, objects, place, records, total):
+def some_length(dialect, tag, objects, place, records, total):
     """Does some legal length of the type, in the first of so many records, let them end well?"""
     longest = total - place - 8
     return any(
-        legal(tag, objects, size) and rest_can_end(place + 8 + size, records - 1, total)
+        dialect.legal(tag, objects, size) and rest_can_end(dialect, place + 8 + size, records - 1, total)
         for size in range(longest, -1, -1)
     )
 
 
-def mmwave(data):
+def packet_judgement(dialect, data):
     for i, byte in enumerate(data[:8]):
         if byte != MAGIC[i]:
             return ("bad", 20)
-    if len(data) < 16:
-        return WAITING
     total = number(data, 12)
-    if total % 32 != 0 or not 64 <= total <= 32768:
-        return ("bad", 21)
-    if len(data) < 36:
-        return WAITING
-    objects, records = number(data, 28), number(data, 32)
-    if records > 32 or 8 * records > total - 40 or (records == 0 and total != 64):
-        return ("bad", 22)
-    place = 40
-    for left in range(records, 0, -1):
+    for end, reason, passes in [(16, 21, lambda: dialect.total(total)),
+                                (32, 26, lambda: dialect.objects(number(data, 28))),
+                                (36, 22, lambda: dialect.records(total, number(data, 32))),
+                                (40, 26, lambda: dialect.subframe(number(data, 36)))]:
+        if len(data) < end:
+            return WAITING
+        if not passes():
+            return ("bad", reason)
+    objects, place = number(data, 28), 40
+    for left in range(number(data, 32), 0, -1):
         if len(data) < place + 4:
             return WAITING
         tag = number(data, place)
-        if not some_length(tag, objects, place, left, total):
+        if not some_length(dialect, tag, objects, place, left, total):
             return ("bad", 23)
         if len(data) < place + 8:
             return WAITING
         size = number(data, place + 4)
-        if not legal(tag, objects, size) or not rest_can_end(place + 8 + size, left - 1, total):
+        if not dialect.legal(tag, objects, size) or not rest_can_end(dialect, place + 8 + size, left - 1, total):
             return ("bad", 24)
         place += 8 + size
         if len(data) < place:
             return WAITING
-    assert ends_well(place, total)
+    assert dialect.ends_well(place, total)
     if len(data) < total:
         return WAITING
-    return ("whole", 16, total)
+    return ("whole", dialect.kind, total)
 
 
 # -- The slices
@@ -172,10 +216,10 @@ def whole_frames():
     return [part for frame in frames for part in (frame, frame[:-1])]
 
 
-def packet(total, objects, records, behind=b"", ends=None):
+def packet(total, objects, records, behind=b"", ends=None, subframe=3):
     """A header with free fields of their own, what follows it, and zeros up to the end; or only the first bytes of that."""
     ends = total if ends is None else ends
-    fields = [0x03050004, total, 0xA6843, 7, 0xFFFFFFFF, objects, records, 3]
+    fields = [0x03050004, total, 0xA6843, 7, 0xFFFFFFFF, objects, records, subframe]
     return (MAGIC + struct.pack("<8I", *fields) + behind).ljust(ends, b"\0")[:ends]
 
 
@@ -212,8 +256,41 @@ def most_records():
     return [packet(total, 0, 32, 32 * record(10, 0)) for total in (288, 320, 352)]
 
 
+def vital(total, records, behind=b"", ends=None, objects=99, subframe=0):
+    return packet(total, objects, records, behind, ends, subframe)
+
+
+def vital_edges():
+    """Paper 02's numbers: the fixed fields, whole and cut; totals and counts at their limits; each type with its lengths, also none; types
+    and lengths that do not fit; types that document 002 does not name."""
+    fixed = [vital(40, 0), vital(40, 0, objects=98), vital(40, 0, objects=98, ends=31), vital(40, 0, subframe=1),
+             vital(40, 0, subframe=1, ends=39), vital(32768, 0, ends=16), vital(32772, 0, ends=16), vital(36, 0, ends=16)]
+    totals = [vital(44, 0, ends=16), vital(50, 1, ends=16), vital(48, 0, ends=36), vital(40, 1, ends=36), vital(300, 33, ends=36),
+              vital(64, 4, ends=36)]
+    whole = [vital(72, 1, record(1, 24)), vital(68, 1, record(4, 20)), vital(48, 1, record(2, 0)), vital(48, 1, record(3, 0)),
+             vital(52, 1, record(2, 4)), vital(64, 1, record(3, 16)), vital(296, 32, 32 * record(2, 0))]
+    refused = [vital(72, 1, record(4, 24), 44), vital(68, 1, record(1, 20), 44), vital(104, 2, record(1, 28), 48),
+               vital(52, 1, record(3, 4), 44), vital(64, 1, record(3, 12), 48), vital(64, 1, record(2, 18), 48),
+               vital(64, 1, record(5, 16), 44), vital(64, 1, record(0, 16), 44), vital(300, 32, record(2, 8), 48)]
+    return fixed + totals + whole + refused
+
+
+def four_types():
+    """A packet with all four types of document 002: whole, with a byte behind it, and cut at and inside its fields."""
+    records = record(1, 24, bytes(24)) + record(2, 12, bytes(12)) + record(3, 32, bytes(32)) + record(4, 20, bytes(20))
+    whole = vital(160, 4, records)
+    cuts = [28, 31, 32, 35, 36, 39, 40, 44, 47, 48, 71, 72, 159]
+    return [whole, whole + b"\x02"] + [whole[:end] for end in cuts]
+
+
+def both_dialects():
+    """A packet of both: 99 objects, subframe 0, and L, a multiple of 32, the end of the last record; and with another subframe."""
+    return [vital(64, 1, record(2, 16)), vital(128, 2, record(2, 24, bytes(24)) + record(3, 48)), vital(64, 1, record(2, 16), subframe=1)]
+
+
 def slices():
-    return starts() + error_frames() + data_frames() + whole_frames() + edges() + refused_packets() + three_records() + most_records()
+    return (starts() + error_frames() + data_frames() + whole_frames() + edges() + refused_packets() + three_records() + most_records()
+            + vital_edges() + four_types() + both_dialects())
 
 
 def main():
@@ -224,7 +301,8 @@ def main():
     if STDIN.read_bytes() != given:
         sys.exit("crates/judge_cases/stdin holds other slices")
     for data in slices():
-        print(len(data), "sirad", *sirad(data), "mmwave", *mmwave(data))
+        print(len(data), "sirad", *sirad(data), "mmwave", *packet_judgement(MmWave, data),
+              "vital", *packet_judgement(VitalSigns, data))
 
 
 main()

@@ -1,6 +1,7 @@
--- The proofs of specs/Demands.antt. Each brings a theorem of `form`, of a wire or of `reading` to the entries' answers, within the size limit.
+-- The proofs of specs/Demands.antt. Each brings a theorem of `form`, of a wire or of `reading` to the entries' answers, within the size
+-- limit.
 use mathlib.Core.Bool.{Bool, true, false}
-use mathlib.Core.Path.{_≡_, refl, sym, ap, subst, _∙_}
+use mathlib.Core.Path.{_≡_, refl, sym, ap, _∙_}
 use mathlib.Core.List.{List, [], _∷_, _++_}
 use mathlib.Core.Logic.{_↔_}
 use Prim.Native.Nat.{ℕ, zero, suc, _+_, _-_, _*_, _<_, _≤_}
@@ -9,7 +10,7 @@ use native.Mathlib.Decide.{decLt}
 use lib.Dec.{eqb}
 use lib.ListN.{length, drop, getD, length-append, length-drop}
 use lib.Seq.{drop-append-le, drop-length, getD-drop}
-use borrow.Author.Tests.{lt-ltb, le-ltb, ne-eqb, eqb-true, eqb-false}
+use borrow.Author.Tests.{lt-ltb, le-ltb, eqb-true, eqb-false}
 use Rattle.digits.specs.Bytes.{Bytes}
 use Rattle.digits.specs.LittleEndian.{toLittle, fromLittle}
 use Rattle.digits.specs.Hex.{digit}
@@ -20,7 +21,7 @@ use Rattle.form.specs.Pieces.{marker, free, frees}
 use Rattle.form.specs.declared.Judgement.{Judgement}
 use Rattle.form.specs.declared.Judgement.the-variants.{Whole, Bad, Waiting}
 use Rattle.form.proofs.Theorems as forms
-use Rattle.reading.specs.Answers.{answered, refused, roomIn}
+use Rattle.reading.specs.Answers.{answered, roomIn}
 use Rattle.reading.specs.Leftmost.{StandsAt, NoneAt, NoneStands, Leftmost, none}
 use Rattle.reading.specs.Reading.{Reading, reading, flat, rowWidth}
 use Rattle.reading.specs.declared.Answer.{Answer}
@@ -35,24 +36,28 @@ use Rattle.sirad.specs.Rows.{classes, characters}
 use Rattle.sirad.proofs.Starts.{waiting-starts-once}
 use Rattle.sirad.proofs.TableLaws.{table-is-form}
 use Rattle.sirad.proofs.Theorems.{sirad-waits}
-use Rattle.mmwave.specs.MmWave.{mmWave, totalLegal, countLegal, perObject, payloadRule, payloadFits, somePayloadFits}
+use Rattle.mmwave.specs.declared.PacketDialect.the-variants.{MmWave, VitalSigns}
+use Rattle.mmwave.specs.Profile.{countOk, fits, possible, typeOk, lengthOk}
+use Rattle.mmwave.specs.MmWave.{mmWave, totalLegal, perObject, payloadRule}
+use Rattle.mmwave.specs.VitalSigns.{vitalSigns, vitalTotal, vitalRule}
 use Rattle.mmwave.specs.Packet.{magic, entry, last, records, counted, packet}
-use Rattle.mmwave.specs.Profile.{typeOk, lengthOk}
+use Rattle.mmwave.specs.Dialects.{profileOf, sentencesOf}
 use Rattle.mmwave.proofs.Paper.{frame-exactly-if-packet}
-use Rattle.mmwave.proofs.FieldEnds.{waits-outside, waits-inside}
+use Rattle.mmwave.proofs.Judged.{waits-outside, waits-inside}
+use Rattle.mmwave.proofs.VitalSays as vital
+use Rattle.mmwave.proofs.Dialects.{sound-of, says-of}
 use Rattle.units.specs.Float.{significand, scale}
 use Rattle.units.specs.Rounding.{nearest}
 use Rattle.units.specs.Units.{decibels, centidegrees, millimetres}
 use Rattle.capture.specs.Demands as say
-use Rattle.capture.specs.Demands.{StandsIn, judgedAt, EndsInsideField, ChoosesFirst}
+use Rattle.capture.specs.Demands.{StandsIn, judgedAt, EndsInsideField}
 use Rattle.capture.specs.Dialects.{dialectOf, formOf, judgeOf, startOf}
-use Rattle.capture.specs.Edges.{edges}
+use Rattle.capture.specs.Edges.{edges, vitalEdges}
 use Rattle.capture.specs.Entries.{maxBytes, verdict, verdictNumbers, readAnswer, readLeaves}
 use Rattle.capture.specs.Lines.{closedRows, emptyPart, chosen, partOf}
-use Rattle.capture.specs.declared.Asked.{Asked}
 use Rattle.capture.specs.declared.Asked.the-variants.{Known, Unknown}
 use Rattle.capture.specs.declared.Dialect.{Dialect}
-use Rattle.capture.specs.declared.Dialect.the-variants.{Sirad, Mmwave}
+use Rattle.capture.specs.declared.Dialect.the-variants.{Sirad, Packets}
 use Rattle.capture.specs.declared.Verdict.{Verdict}
 use Rattle.capture.specs.declared.Verdict.the-variants.{Refused, Judged}
 use Rattle.capture.proofs.EntryLaws.{unknown-refused, verdict-long, verdict-beyond, verdict-judged}
@@ -62,15 +67,21 @@ use Rattle.capture.proofs.Wires.{lawful-of, no-start, dialect-none}
 -- -- From the judgement to the entry
 
 -- within the limits the entry gives the judgement
-judged-is : (d : Dialect) (bs : List ℕ) (at : ℕ) → length bs ≤ maxBytes → at ≤ length bs → judgedAt d bs at ≡ Judged (judgeOf d (drop at bs))
+judged-is : (d : Dialect) (bs : List ℕ) (at : ℕ) → length bs ≤ maxBytes → at ≤ length bs
+    → judgedAt d bs at ≡ Judged (judgeOf d (drop at bs))
 judged-is d bs at l h = sym (verdict-judged d bs at (judgeOf d (drop at bs)) l h refl)
 
 -- the entry says a judgement exactly if it is the judgement
-judged-exactly : (d : Dialect) (bs : List ℕ) (at : ℕ) (j : Judgement) → length bs ≤ maxBytes → at ≤ length bs → (judgedAt d bs at ≡ Judged j) ↔ (judgeOf d (drop at bs) ≡ j)
-judged-exactly d bs at j l h = ((λ e. let q : Judged (judgeOf d (drop at bs)) ≡ Judged j = sym (judged-is d bs at l h) ∙ e in cc), (λ e. judged-is d bs at l h ∙ ap Judged e))
+judged-exactly : (d : Dialect) (bs : List ℕ) (at : ℕ) (j : Judgement) → length bs ≤ maxBytes → at ≤ length bs
+    → (judgedAt d bs at ≡ Judged j) ↔ (judgeOf d (drop at bs) ≡ j)
+judged-exactly d bs at j l h = (
+  (λ e. let q : Judged (judgeOf d (drop at bs)) ≡ Judged j = sym (judged-is d bs at l h) ∙ e in cc),
+  (λ e. judged-is d bs at l h ∙ ap Judged e),
+)
 
 -- the frames that stand are those that are judged whole
-stands-alike : (d : Dialect) (bs : List ℕ) (from : ℕ) (ws : List Row) → Leftmost (StandsIn d bs) from ws ↔ Leftmost (StandsAt (judgeOf d) bs) from ws
+stands-alike : (d : Dialect) (bs : List ℕ) (from : ℕ) (ws : List Row)
+    → Leftmost (StandsIn d bs) from ws ↔ Leftmost (StandsAt (judgeOf d) bs) from ws
 stands-alike d bs from ws = (
   leftmost.leftmost-alike (StandsIn d bs) (StandsAt (judgeOf d) bs) (λ at k n s. forms.stands-judged (formOf d) k n (drop at bs) s)
       (λ at k n s. forms.judged-stands (formOf d) k n (drop at bs) s) from ws,
@@ -79,15 +90,21 @@ stands-alike d bs from ws = (
 )
 
 none-alike : (d : Dialect) (bs : List ℕ) → NoneStands (StandsIn d bs) ↔ NoneStands (StandsAt (judgeOf d) bs)
-none-alike d bs = ((λ h at k n s. h at k n (forms.judged-stands (formOf d) k n (drop at bs) s)), (λ h at k n s. h at k n (forms.stands-judged (formOf d) k n (drop at bs) s)))
+none-alike d bs = (
+  (λ h at k n s. h at k n (forms.judged-stands (formOf d) k n (drop at bs) s)),
+  (λ h at k n s. h at k n (forms.stands-judged (formOf d) k n (drop at bs) s)),
+)
 
 -- -- Demand 2
 
 pub sirad-frames : say.SiradFrames
 sirad-frames = table-is-form
 
-pub mmwave-frames : say.MmwaveFrames
-mmwave-frames = frame-exactly-if-packet
+pub packet-frames : say.PacketFrames
+packet-frames d = frame-exactly-if-packet (profileOf d) (sound-of d) (sentencesOf d) (says-of d)
+
+pub vital-lengths : say.VitalLengths
+vital-lengths = vital.vital-lengths
 
 pub whole-exactly-if-stands : say.WholeExactlyIfStands
 whole-exactly-if-stands d bs l at h k n =
@@ -100,8 +117,11 @@ one-stands d bs at k₁ n₁ k₂ n₂ = forms.stands-once (formOf d) k₁ n₁ 
 
 pub one-leftmost : say.OneLeftmost
 one-leftmost d bs =
-    let there = leftmost.leftmost-exists (judgeOf d) (lawful-of d) bs in
-    (reading (judgeOf d) true (length bs) bs .rows, stands-alike d bs 0 _ .1 there, (λ vs l. leftmost.leftmost-unique (judgeOf d) (lawful-of d) bs vs _ (stands-alike d bs 0 vs .0 l) there))
+    let there = leftmost.leftmost-exists (judgeOf d) (lawful-of d) bs in (
+      reading (judgeOf d) true (length bs) bs .rows,
+      stands-alike d bs 0 _ .1 there,
+      (λ vs l. leftmost.leftmost-unique (judgeOf d) (lawful-of d) bs vs _ (stands-alike d bs 0 vs .0 l) there),
+    )
 
 pub closed-is-leftmost : say.ClosedIsLeftmost
 closed-is-leftmost d bs room ws l m = leftmost.closed-is-leftmost (judgeOf d) (lawful-of d) bs room ws (stands-alike d bs 0 ws .0 l) m
@@ -115,8 +135,11 @@ none-exactly-if-none-stands d bs room =
 
 pub answers-the-reading : say.AnswersTheReading
 unfolding readAnswer readLeaves
-answers-the-reading d closed bs table l =
-    (rw (le-ltb maxBytes (length bs) l), rw (le-ltb maxBytes (length bs) l) (rows.numbers-behind-stay (judgeOf d) (lawful-of d) closed bs table (roomIn table) (omega arith)))
+answers-the-reading d closed bs table l = (
+  rw (le-ltb maxBytes (length bs) l),
+  rw (le-ltb maxBytes (length bs) l)
+      (rows.numbers-behind-stay (judgeOf d) (lawful-of d) closed bs table (roomIn table) (omega arith)),
+)
 
 pub rows-fit : say.RowsFit
 rows-fit d closed bs room = rows.rows-fit (judgeOf d) (lawful-of d) closed bs room
@@ -152,11 +175,15 @@ pub full-is-final : say.FullIsFinal
 full-is-final d A B l table s =
     let a = answers-the-reading d false A table (first-within A B l) in
     let b = answers-the-reading d false (A ++ B) table l in
-    let e = prefix.full-is-final (judgeOf d) (lawful-of d) (roomIn table) A B (sym (ap (λ (x : Answer). x .state) (a .0)) ∙ s) in
-    (a .0 ∙ ap answered e ∙ sym (b .0), a .1 ∙ ap (λ (r : Reading). flat (r .rows) ++ drop (rowWidth * length (r .rows)) table) e ∙ sym (b .1))
+    let e = prefix.full-is-final (judgeOf d) (lawful-of d) (roomIn table) A B (sym (ap (λ (x : Answer). x .state) (a .0)) ∙ s) in (
+      a .0 ∙ ap answered e ∙ sym (b .0),
+      a .1 ∙ ap (λ (r : Reading). flat (r .rows) ++ drop (rowWidth * length (r .rows)) table) e
+          ∙ sym (b .1),
+    )
 
 -- a judgement that is not waiting is said again of more bytes
-said-again : (d : Dialect) (A B : List ℕ) (at : ℕ) (j : Judgement) → length (A ++ B) ≤ maxBytes → at ≤ length A → (j ≡ Waiting → ⊥) → judgedAt d A at ≡ Judged j → judgedAt d (A ++ B) at ≡ Judged j
+said-again : (d : Dialect) (A B : List ℕ) (at : ℕ) (j : Judgement) → length (A ++ B) ≤ maxBytes → at ≤ length A → (j ≡ Waiting → ⊥)
+    → judgedAt d A at ≡ Judged j → judgedAt d (A ++ B) at ≡ Judged j
 said-again d A B at j l h settled q =
     let n = length-append A B in
     let e : judgeOf d (drop at A) ≡ j = judged-exactly d A at j (first-within A B l) h .0 q in
@@ -164,12 +191,15 @@ said-again d A B at j l h settled q =
     judged-exactly d (A ++ B) at j l (omega arith) .1 (rw (drop-append-le at A B h) kept)
 
 pub judged-alike : say.JudgedAlike
-judged-alike d A B l at h = ((λ k n. said-again d A B at (Whole k n) l h (prefix.whole-waits refl)), (λ r. said-again d A B at (Bad r) l h (prefix.bad-waits refl)))
+judged-alike d A B l at h = (
+  (λ k n. said-again d A B at (Whole k n) l h (prefix.whole-waits refl)),
+  (λ r. said-again d A B at (Bad r) l h (prefix.bad-waits refl)),
+)
 
 waits-from : (d : Dialect) (bs : List ℕ) → Bytes bs → (EndsInsideField d bs → ⊥) → (judgeOf d bs ≡ Waiting) ↔ Completable (formOf d) bs
 unfolding formOf
 waits-from Sirad bs b out = sirad-waits bs b
-waits-from Mmwave bs b out = waits-outside bs b out
+waits-from (Packets d) bs b out = waits-outside (profileOf d) (sound-of d) (sentencesOf d) (says-of d) bs b out
 
 pub waits-exactly : say.WaitsExactly
 waits-exactly d A b l at h out =
@@ -180,7 +210,7 @@ waits-exactly d A b l at h out =
 waits-within : (d : Dialect) (bs : List ℕ) → EndsInsideField d bs → judgeOf d bs ≡ Waiting
 unfolding formOf
 waits-within Sirad bs i = absurd i
-waits-within Mmwave bs i = waits-inside bs i
+waits-within (Packets d) bs i = waits-inside (profileOf d) (sound-of d) (sentencesOf d) (says-of d) bs i
 
 pub inside-waits : say.InsideWaits
 inside-waits d A l at h i = judged-exactly d A at Waiting l h .1 (waits-within d (drop at A) i)
@@ -191,35 +221,39 @@ end-waits d A l = judged-exactly d A (length A) Waiting l (omega arith) .1 (rw (
 -- -- Demand 1
 
 -- the numbers of the dialects
-asked-is : (number : ℕ) → number < 2 → (d : Dialect) × (dialectOf number ≡ Known d)
+asked-is : (number : ℕ) → number < 3 → (d : Dialect) × (dialectOf number ≡ Known d)
 unfolding dialectOf
 asked-is zero h = (Sirad, refl)
-asked-is (suc zero) h = (Mmwave, refl)
-asked-is (suc (suc n)) h = absurd (omega arith)
+asked-is (suc zero) h = (Packets MmWave, refl)
+asked-is (suc (suc zero)) h = (Packets VitalSigns, refl)
+asked-is (suc (suc (suc n))) h = absurd (omega arith)
 
-asked-none : (number : ℕ) → 2 ≤ number → dialectOf number ≡ Unknown
-asked-none number h = sym (dialect-none number (λ e. omega arith) (λ e. omega arith))
+asked-none : (number : ℕ) → 3 ≤ number → dialectOf number ≡ Unknown
+asked-none number h = sym (dialect-none number (λ e. omega arith) (λ e. omega arith) (λ e. omega arith))
 
 not-refused : (j : Judgement) → verdictNumbers (Judged j) .refusal ≡ 0
 not-refused (Whole k n) = refl
 not-refused (Bad r) = refl
 not-refused Waiting = refl
 
-verdict-refuses : (d : Dialect) (bs : List ℕ) (at : ℕ) → (verdictNumbers (verdict (Known d) bs at) .refusal ≡ 0) ↔ ((length bs ≤ maxBytes) × (at ≤ length bs))
+verdict-refuses : (d : Dialect) (bs : List ℕ) (at : ℕ)
+    → (verdictNumbers (verdict (Known d) bs at) .refusal ≡ 0) ↔ ((length bs ≤ maxBytes) × (at ≤ length bs))
 verdict-refuses d bs at = (
   there (decLt maxBytes (length bs)) (decLt (length bs) at),
   λ h. ap (λ (v : Verdict). verdictNumbers v .refusal) (judged-is d bs at (h .0) (h .1)) ∙ not-refused (judgeOf d (drop at bs)),
 )
   where
-    there : Dec (maxBytes < length bs) → Dec (length bs < at) → verdictNumbers (verdict (Known d) bs at) .refusal ≡ 0 → (length bs ≤ maxBytes) × (at ≤ length bs)
+    there : Dec (maxBytes < length bs) → Dec (length bs < at) → verdictNumbers (verdict (Known d) bs at) .refusal ≡ 0
+        → (length bs ≤ maxBytes) × (at ≤ length bs)
     there (yes l) m e = let z : _≡_ {A = ℕ} 3 0 = rw (← verdict-long d bs at l) at e in absurd (omega arith)
     there (no l) (yes m) e = let z : _≡_ {A = ℕ} 2 0 = rw (← verdict-beyond d bs at (omega arith) m) at e in absurd (omega arith)
     there (no l) (no m) e = (omega arith, omega arith)
 
 pub judgement-refuses-only : say.JudgementRefusesOnly
-judgement-refuses-only number bs at = by-number (decLt number 2)
+judgement-refuses-only number bs at = by-number (decLt number 3)
   where
-    by-number : Dec (number < 2) → (verdictNumbers (verdict (dialectOf number) bs at) .refusal ≡ 0) ↔ ((number < 2) × (length bs ≤ maxBytes) × (at ≤ length bs))
+    by-number : Dec (number < 3) → (verdictNumbers (verdict (dialectOf number) bs at) .refusal ≡ 0) ↔
+        ((number < 3) × (length bs ≤ maxBytes) × (at ≤ length bs))
     by-number (yes l) =
         let k = asked-is number l in
         let v = verdict-refuses (k .0) bs at in
@@ -228,7 +262,8 @@ judgement-refuses-only number bs at = by-number (decLt number 2)
         let u : verdict (dialectOf number) bs at ≡ Refused 1 = rw (asked-none number (omega arith)) (sym (unknown-refused bs at)) in
         ((λ h. let z : _≡_ {A = ℕ} 1 0 = rw u at h in absurd (omega arith)), (λ h. absurd (l (h .0))))
 
-reading-refuses : (d : Dialect) (closed : Bool) (bs : List ℕ) (room : ℕ) → (readAnswer (Known d) closed bs room .refusal ≡ 0) ↔ (length bs ≤ maxBytes)
+reading-refuses : (d : Dialect) (closed : Bool) (bs : List ℕ) (room : ℕ)
+    → (readAnswer (Known d) closed bs room .refusal ≡ 0) ↔ (length bs ≤ maxBytes)
 unfolding readAnswer
 reading-refuses d closed bs room = (there (decLt maxBytes (length bs)), (λ h. rw (le-ltb maxBytes (length bs) h)))
   where
@@ -238,14 +273,17 @@ reading-refuses d closed bs room = (there (decLt maxBytes (length bs)), (λ h. r
 
 pub reading-refuses-only : say.ReadingRefusesOnly
 unfolding readAnswer
-reading-refuses-only number closed bs room = by-number (decLt number 2)
+reading-refuses-only number closed bs room = by-number (decLt number 3)
   where
-    by-number : Dec (number < 2) → (readAnswer (dialectOf number) closed bs room .refusal ≡ 0) ↔ ((number < 2) × (length bs ≤ maxBytes))
+    by-number : Dec (number < 3) → (readAnswer (dialectOf number) closed bs room .refusal ≡ 0) ↔ ((number < 3) × (length bs ≤ maxBytes))
     by-number (yes l) =
         let k = asked-is number l in
         let v = reading-refuses (k .0) closed bs room in
         ((λ h. (l, v .0 (rw (k .1) at h))), (λ h. rw (k .1) (v .1 (h .1))))
-    by-number (no l) = ((λ h. let z : _≡_ {A = ℕ} 1 0 = rw (asked-none number (omega arith)) at h in absurd (omega arith)), (λ h. absurd (l (h .0))))
+    by-number (no l) = (
+      (λ h. let z : _≡_ {A = ℕ} 1 0 = rw (asked-none number (omega arith)) at h in absurd (omega arith)),
+      (λ h. absurd (l (h .0))),
+    )
 
 pub refusal-changes-nothing : say.RefusalChangesNothing
 unfolding readLeaves
@@ -260,27 +298,34 @@ refusal-changes-nothing (Known d) closed bs table h = by-length (decLt maxBytes 
 
 rows-are : (d : Dialect) (bs : List ℕ) (ws : List Row) → Leftmost (StandsIn d bs) 0 ws → closedRows d bs ≡ ws
 unfolding closedRows
-rows-are d bs ws l = leftmost.leftmost-unique (judgeOf d) (lawful-of d) bs _ ws (leftmost.leftmost-exists (judgeOf d) (lawful-of d) bs) (stands-alike d bs 0 ws .0 l)
+rows-are d bs ws l = leftmost.leftmost-unique (judgeOf d) (lawful-of d) bs _ ws (leftmost.leftmost-exists (judgeOf d) (lawful-of d) bs)
+    (stands-alike d bs 0 ws .0 l)
 
 pub two-lines : say.TwoLines
 unfolding chosen
 two-lines d main standby m s =
     record {
-      from-main = λ w ws l. sym (both-short d main standby m s) ∙ ap (λ (rs : List Row). chosen rs (closedRows d standby)) (rows-are d main (w ∷ ws) l);
-      from-standby = λ w ws n l. sym (both-short d main standby m s) ∙ (λ i. chosen (rows-are d main [] (none (λ at h. n at)) i) (rows-are d standby (w ∷ ws) l i));
-      from-neither = λ n o. sym (both-short d main standby m s) ∙ (λ i. chosen (rows-are d main [] (none (λ at h. n at)) i) (rows-are d standby [] (none (λ at h. o at)) i));
+      from-main = λ w ws l. sym (both-short d main standby m s)
+          ∙ ap (λ (rs : List Row). chosen rs (closedRows d standby)) (rows-are d main (w ∷ ws) l);
+      from-standby = λ w ws n l. sym (both-short d main standby m s)
+          ∙ (λ i. chosen (rows-are d main [] (none (λ at h. n at)) i) (rows-are d standby (w ∷ ws) l i));
+      from-neither = λ n o. sym (both-short d main standby m s)
+          ∙ (λ i. chosen (rows-are d main [] (none (λ at h. n at)) i) (rows-are d standby [] (none (λ at h. o at)) i));
     }
 
 pub refused-line-is-empty : say.RefusedLineIsEmpty
-refused-line-is-empty number main standby closed room h = by-number (decLt number 2)
+refused-line-is-empty number main standby closed room h = by-number (decLt number 3)
   where
-    by-length : (d : Dialect) → dialectOf number ≡ Known d → Dec (maxBytes < length main) → Dec (maxBytes < length standby) → partOf (dialectOf number) main standby ≡ emptyPart
+    by-length : (d : Dialect) → dialectOf number ≡ Known d → Dec (maxBytes < length main) → Dec (maxBytes < length standby)
+        → partOf (dialectOf number) main standby ≡ emptyPart
     by-length d e (yes l) m = rw e (sym (main-long d main standby l))
     by-length d e (no l) (yes m) = rw e (sym (standby-long d main standby (omega arith) m))
-    by-length d e (no l) (no m) = absurd (h (rw e (reading-refuses d closed main room .1 (omega arith)), rw e (reading-refuses d closed standby room .1 (omega arith))))
+    by-length d e (no l) (no m) = absurd
+        (h (rw e (reading-refuses d closed main room .1 (omega arith)), rw e (reading-refuses d closed standby room .1 (omega arith))))
 
-    by-number : Dec (number < 2) → partOf (dialectOf number) main standby ≡ emptyPart
-    by-number (yes l) = let k = asked-is number l in by-length (k .0) (k .1) (decLt maxBytes (length main)) (decLt maxBytes (length standby))
+    by-number : Dec (number < 3) → partOf (dialectOf number) main standby ≡ emptyPart
+    by-number (yes l) = let k = asked-is number l in by-length (k .0) (k .1) (decLt maxBytes (length main))
+        (decLt maxBytes (length standby))
     by-number (no l) = rw (asked-none number (omega arith)) (sym (unknown-part main standby))
 
 -- -- SiRad's open and closed rows
@@ -306,7 +351,12 @@ sirad-open-is-closed bs room = leftmost.open-is-closed (judgeOf Sirad) (lawful-o
 -- -- Values at the edges
 
 pub edges-hold : say.EdgesHold
-unfolding edges formOf toLittle fromLittle digit _>>=_ judge marker free frees typeOk lengthOk magic entry last records counted
-    packet mmWave totalLegal countLegal perObject payloadRule payloadFits somePayloadFits sirad body number lay classes
+unfolding edges formOf profileOf toLittle fromLittle digit _>>=_ judge marker free frees countOk fits possible typeOk lengthOk
+    magic entry last records counted packet mmWave totalLegal perObject payloadRule sirad body number lay classes
     characters millimetres decibels centidegrees significand scale nearest
 edges-hold = refl
+
+pub vital-edges-hold : say.VitalEdgesHold
+unfolding vitalEdges formOf profileOf toLittle fromLittle _>>=_ judge marker free frees countOk fits possible typeOk lengthOk
+    magic entry last records counted packet mmWave totalLegal perObject payloadRule vitalSigns vitalTotal vitalRule
+vital-edges-hold = refl

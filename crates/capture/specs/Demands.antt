@@ -7,9 +7,10 @@ use mathlib.Core.Bool.{Bool, true, false}
 use mathlib.Core.Path.{_≡_}
 use mathlib.Core.List.{List, [], _∷_, _++_, map}
 use mathlib.Core.Logic.{_↔_}
-use Prim.Native.Nat.{ℕ, _+_, _*_, _<_, _≤_}
+use Prim.Native.Nat.{ℕ, _+_, _*_, _%_, _<_, _≤_}
 use lib.ListN.{length, drop}
 use Rattle.digits.specs.Bytes.{Bytes}
+use Rattle.digits.specs.LittleEndian.{littleAt}
 use Rattle.form.specs.Form.{Frame, Stands, Completable}
 use Rattle.form.specs.declared.Judgement.the-variants.{Whole, Bad, Waiting}
 use Rattle.reading.specs.Answers.{answered, roomIn}
@@ -21,17 +22,18 @@ use Rattle.reading.specs.Reading.{Reading, reading, flat, rowWidth, lengths, st
 use Rattle.reading.specs.declared.Row.{Row}
 use Rattle.sirad.specs.Sirad.{sirad}
 use Rattle.sirad.specs.Table.{TableFrame}
-use Rattle.mmwave.specs.MmWave.{mmWave}
+use Rattle.mmwave.specs.declared.PacketDialect.{PacketDialect}
 use Rattle.mmwave.specs.Packet.{packet}
-use Rattle.mmwave.specs.Paper.{Packet, EndsInField}
+use Rattle.mmwave.specs.Paper.{vitalSays, Packet, EndsInField}
+use Rattle.mmwave.specs.Dialects.{profileOf, sentencesOf}
 use Rattle.capture.specs.Dialects.{dialectOf, formOf, judgeOf}
-use Rattle.capture.specs.Edges.{Line, resultOf, edges}
+use Rattle.capture.specs.Edges.{Line, resultOf, edges, vitalEdges}
 use Rattle.capture.specs.Entries.{maxBytes, verdict, verdictNumbers, readAnswer, readLeaves}
 use Rattle.capture.specs.Lines.{rowPart, emptyPart, partOf}
 use Rattle.capture.specs.declared.Asked.{Asked}
 use Rattle.capture.specs.declared.Asked.the-variants.{Known}
 use Rattle.capture.specs.declared.Dialect.{Dialect}
-use Rattle.capture.specs.declared.Dialect.the-variants.{Sirad, Mmwave}
+use Rattle.capture.specs.declared.Dialect.the-variants.{Sirad, Packets}
 use Rattle.capture.specs.declared.Verdict.{Verdict}
 use Rattle.capture.specs.declared.Verdict.the-variants.{Judged}
 
@@ -56,21 +58,21 @@ closedOf d room bs = reading (judgeOf d) true room bs
 -- the bytes "end inside" a four-byte field, of which SiRad has none (paper 01, "Judging a place")
 abbrev pub EndsInsideField : Dialect → List ℕ → Type 0
 EndsInsideField Sirad bs = ⊥
-EndsInsideField Mmwave bs = EndsInField bs
+EndsInsideField (Packets d) bs = EndsInField (sentencesOf d) bs
 
 -- -- Demand 1: bad input is answered with a number, and a refusal changes nothing
 
--- the judgement refuses nothing but a dialect other than 0 and 1, more than 1,048,576 bytes, and an offset beyond the length
+-- the judgement refuses nothing but a dialect other than 0, 1 and 2, more than 1,048,576 bytes, and an offset beyond the length
 abbrev pub JudgementRefusesOnly : Type 0
 JudgementRefusesOnly =
     (number : ℕ) (bs : List ℕ) (at : ℕ)
-    → (verdictNumbers (verdict (dialectOf number) bs at) .refusal ≡ 0) ↔ ((number < 2) × (length bs ≤ maxBytes) × (at ≤ length bs))
+    → (verdictNumbers (verdict (dialectOf number) bs at) .refusal ≡ 0) ↔ ((number < 3) × (length bs ≤ maxBytes) × (at ≤ length bs))
 
--- a reading refuses nothing but a dialect other than 0 and 1 and more than 1,048,576 bytes
+-- a reading refuses nothing but a dialect other than 0, 1 and 2 and more than 1,048,576 bytes
 abbrev pub ReadingRefusesOnly : Type 0
 ReadingRefusesOnly =
     (number : ℕ) (closed : Bool) (bs : List ℕ) (room : ℕ)
-    → (readAnswer (dialectOf number) closed bs room .refusal ≡ 0) ↔ ((number < 2) × (length bs ≤ maxBytes))
+    → (readAnswer (dialectOf number) closed bs room .refusal ≡ 0) ↔ ((number < 3) × (length bs ≤ maxBytes))
 
 -- a refusal changes no number of the table
 abbrev pub RefusalChangesNothing : Type 0
@@ -84,9 +86,17 @@ RefusalChangesNothing =
 abbrev pub SiradFrames : Type 0
 SiradFrames = (kind : ℕ) (bs : List ℕ) → Frame sirad kind bs ↔ TableFrame kind bs
 
--- the mmWave frames are the packets of paper 01's sentences
-abbrev pub MmwaveFrames : Type 0
-MmwaveFrames = (kind : ℕ) (bs : List ℕ) → Frame (packet mmWave) kind bs ↔ ((kind ≡ 16) × Packet bs)
+-- the frames of a packet dialect are the packets of the papers' sentences on it, with its kind
+abbrev pub PacketFrames : Type 0
+PacketFrames =
+    (d : PacketDialect) (kind : ℕ) (bs : List ℕ)
+    → Frame (packet (profileOf d)) kind bs ↔ ((kind ≡ sentencesOf d .kind) × Packet (sentencesOf d) bs)
+
+-- "So L must be a multiple of 4 and not 44, and K is 0 exactly if L is 40" (paper 02, (i)): of every vital-signs packet
+abbrev pub VitalLengths : Type 0
+VitalLengths =
+    (bs : List ℕ) → Packet vitalSays bs
+    → (length bs % 4 ≡ 0) × (length bs ≡ 44 → ⊥) × ((littleAt 4 32 bs ≡ 0) ↔ (length bs ≡ 40))
 
 -- a place is judged whole exactly when a frame stands there, with that frame's kind and length
 abbrev pub WholeExactlyIfStands : Type 0
@@ -197,7 +207,7 @@ JudgedAlike =
     × ((reason : ℕ) → judgedAt d A at ≡ Judged (Bad reason) → judgedAt d (A ++ B) at ≡ Judged (Bad reason))
 
 -- at every place of A, the end included, the reader waits exactly when no frame stands there yet and some further bytes would complete
--- one; for mmWave, at each place from which A doesn't end inside a four-byte field
+-- one; for packets, at each place from which A doesn't end inside a four-byte field
 abbrev pub WaitsExactly : Type 0
 WaitsExactly =
     (d : Dialect) (A : List ℕ) → Bytes A → length A ≤ maxBytes → (at : ℕ) → at ≤ length A → (EndsInsideField d (drop at A) → ⊥)
@@ -233,8 +243,16 @@ RefusedLineIsEmpty =
     → ((readAnswer (dialectOf number) closed main room .refusal ≡ 0) × (readAnswer (dialectOf number) closed standby room .refusal ≡ 0)
     → ⊥) → partOf (dialectOf number) main standby ≡ emptyPart
 
--- -- Values at the edges (paper 01)
+-- -- Values at the edges (paper 01; paper 02, (i))
+
+-- the rules answer as the lines say
+abbrev pub Hold : List Line → Type 0
+Hold lines = map (λ (l : Line). resultOf (l .question)) lines ≡ map (λ (l : Line). l .result) lines
 
 -- every starred line of the table holds
 abbrev pub EdgesHold : Type 0
-EdgesHold = map (λ (l : Line). resultOf (l .question)) edges ≡ map (λ (l : Line). l .result) edges
+EdgesHold = Hold edges
+
+-- so does every line on paper 02's numbers
+abbrev pub VitalEdgesHold : Type 0
+VitalEdgesHold = Hold vitalEdges

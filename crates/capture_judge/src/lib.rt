@@ -1,13 +1,14 @@
-// The dialects by their numbers, and the judgement at an offset (paper 01, "Judging a place").
+// The dialects by their numbers, and the judgement at an offset (paper 01, "Judging a place"; paper 02, (i)).
 
 use capture::Asked;
 use capture::Dialect;
 use capture::Verdict;
 use form::Judgement;
+use mmwave::PacketDialect;
 ghost use mathlib.Core.Path.{_≡_};
 ghost use Prim.Native.Nat.{_<_};
 ghost use lib.ListN.{drop};
-ghost use Rattle.capture.specs.Dialects.{dialectOf, dialectNumber, formOf, judgeOf, startOf};
+ghost use Rattle.capture.specs.Dialects.{dialectOf, packetNumber, dialectNumber, formOf, judgeOf, startOf};
 ghost use Rattle.form.specs.Numbers.{Judges};
 ghost use Rattle.capture.specs.Entries.{verdict, JudgesAt};
 
@@ -27,8 +28,19 @@ pub fn dialect_of(number: u32) -> Asked
 {
     match number {
         0 => Asked::Known(Dialect::Sirad),
-        1 => Asked::Known(Dialect::Mmwave),
+        1 => Asked::Known(Dialect::Packets(PacketDialect::MmWave)),
+        2 => Asked::Known(Dialect::Packets(PacketDialect::VitalSigns)),
         _ => Asked::Unknown,
+    }
+}
+
+// The number of a packet dialect.
+fn packet_number(d: PacketDialect) -> u32
+    ensures { λ r. ⌜ r ≡ packetNumber d ⌝ }
+{
+    match d {
+        PacketDialect::MmWave => 1,
+        PacketDialect::VitalSigns => 2,
     }
 }
 
@@ -38,7 +50,7 @@ pub fn number_of(d: Dialect) -> u32
 {
     match d {
         Dialect::Sirad => 0,
-        Dialect::Mmwave => 1,
+        Dialect::Packets(p) => packet_number(p),
     }
 }
 
@@ -48,7 +60,7 @@ pub fn start_byte(d: Dialect) -> u8
 {
     match d {
         Dialect::Sirad => 33,
-        Dialect::Mmwave => 2,
+        Dialect::Packets(_) => 2,
     }
 }
 
@@ -57,7 +69,7 @@ fn judge_part(bytes: &[u8], d: Dialect) -> Judgement
 {
     match d {
         Dialect::Sirad => sirad_judge::judge(bytes),
-        Dialect::Mmwave => mmwave_judge::judge(bytes),
+        Dialect::Packets(p) => mmwave_judge::judge(bytes, p),
     }
 }
 

@@ -1,11 +1,11 @@
 -- Bytes of a list at an offset, and bounds on all numbers of a list.
 use mathlib.Core.Path.{_≡_}
 use mathlib.Core.List.{List, [], _∷_}
-use Prim.Native.Nat.{ℕ, zero, suc, _+_, _<_, _≤_}
+use Prim.Native.Nat.{ℕ, zero, suc, _+_, _-_, _<_, _≤_}
 use native.Mathlib.Numerals.{add-one}
 use native.Mathlib.Omega.{arith}
-use lib.ListN.{length, take, drop, getD}
-use lib.Seq.{drop-cons}
+use lib.ListN.{length, take, drop, getD, length-drop}
+use lib.Seq.{drop-cons, take-all}
 use Rattle.digits.specs.Bytes.{Below}
 
 -- -- The bytes from an offset on
@@ -13,6 +13,10 @@ use Rattle.digits.specs.Bytes.{Below}
 -- the first byte from offset at on, then the rest
 pub drop-one : (s : List ℕ) (at : ℕ) → at < length s → drop at s ≡ getD s at 0 ∷ drop (at + 1) s
 drop-one s at h = rw add-one (drop-cons s at 0 h)
+
+-- the part of a slice from an offset on
+pub part-drop : (s : List ℕ) (at : ℕ) → take (length s - at) (drop at s) ≡ drop at s
+part-drop s at = let h = length-drop at s in take-all (length s - at) (drop at s) (omega arith)
 
 -- the first four bytes from offset at on, then the rest
 pub drop-four : (s : List ℕ) (at : ℕ) → at + 4 ≤ length s

@@ -7,37 +7,36 @@ use packet::PacketPoint;
 use packet::PacketRecord;
 use packet::PacketStep;
 ghost use mathlib.Core.Path.{_≡_};
-ghost use Rattle.mmwave.specs.MmWave.{mmWave};
 ghost use Rattle.packet.specs.Fields.{headerOf, RecordShown, StepShown, pointOf};
 
-// The header of exactly one whole packet; else 5.
+// The header of exactly one whole packet of a kind, 16 or 17; else 5.
 #[no_mangle]
-pub extern "C" fn vq_header(packet: &[u8]) -> PacketHeader
-    ensures { λ r. ⌜ r ≡ headerOf mmWave (now (packet .entry)) ⌝ }
+pub extern "C" fn vq_header(kind: u32, packet: &[u8]) -> PacketHeader
+    ensures { λ r. ⌜ r ≡ headerOf kind (now (packet .entry)) ⌝ }
 {
-    packet_fields::header(packet)
+    packet_fields::header(kind, packet)
 }
 
-// Record `index` of a packet: its type and the part of the slice that is its payload; 5, 6.
+// Record `index` of a packet of a kind: its type and the part of the slice that is its payload; 5, 6.
 #[no_mangle]
-pub extern "C" fn vq_record(packet: &[u8], index: usize) -> PacketRecord
-    ensures { λ r. ⌜ RecordShown mmWave (now (packet .entry)) index r ⌝ }
+pub extern "C" fn vq_record(kind: u32, packet: &[u8], index: usize) -> PacketRecord
+    ensures { λ r. ⌜ RecordShown kind (now (packet .entry)) index r ⌝ }
 {
-    packet_fields::record(packet, index)
+    packet_fields::record(kind, packet, index)
 }
 
-// The record that starts at `at`, and the offset behind it; 5, 6.
+// The record of a packet of a kind that starts at `at`, and the offset behind it; 5, 6.
 #[no_mangle]
-pub extern "C" fn vq_step(packet: &[u8], at: usize) -> PacketStep
-    ensures { λ r. ⌜ StepShown mmWave (now (packet .entry)) at r ⌝ }
+pub extern "C" fn vq_step(kind: u32, packet: &[u8], at: usize) -> PacketStep
+    ensures { λ r. ⌜ StepShown kind (now (packet .entry)) at r ⌝ }
 {
-    packet_fields::step(packet, Cursor { at })
+    packet_fields::step(kind, packet, Cursor { at })
 }
 
-// Point `index` of a packet in millimetres; 5, 7, 6, then 30 or 31.
+// Point `index` of a packet of kind 16 in millimetres; 5, 7, 6, then 30 or 31.
 #[no_mangle]
 pub extern "C" fn vq_point(packet: &[u8], index: usize) -> PacketPoint
-    ensures { λ r. ⌜ r ≡ pointOf mmWave (now (packet .entry)) index ⌝ }
+    ensures { λ r. ⌜ r ≡ pointOf (now (packet .entry)) index ⌝ }
 {
     packet_points::point(packet, index)
 }

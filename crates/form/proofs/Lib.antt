@@ -3,3 +3,4 @@ pub mod Theorems
 pub mod Lives
 pub mod Refusals
 pub mod Insides
+pub mod FieldLaws

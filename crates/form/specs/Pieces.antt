@@ -5,7 +5,7 @@ use mathlib.Core.List.{List, [], _∷_}
 use Prim.Native.Nat.{ℕ, zero, suc, _+_, _<_}
 use lib.Dec.{eqb}
 use lib.ListN.{length, take, getD}
-use Rattle.form.specs.Form.{Form, whole, byte, word, _>>=_, _>>_}
+use Rattle.form.specs.Form.{Form, whole, byte, word}
 
 -- the test that takes everything
 abbrev pub any : ℕ → Bool

@@ -1,9 +1,11 @@
-// Reads slices from standard input, each behind its length in four bytes, and prints of each its length and both judgements.
+// Reads slices from standard input, each behind its length in four bytes, and prints of each its length and the judgements of the three
+// dialects.
 use case_input::case_at;
 use case_input::case_end;
 use form::Judgement;
 use libc::STDIN_FILENO;
 use libc::STDOUT_FILENO;
+use mmwave::PacketDialect;
 
 fn field(n: u64) {
     io::write_all(STDOUT_FILENO, b" ");
@@ -32,7 +34,9 @@ fn judge_one(s: &[u8]) {
     io::write_all(STDOUT_FILENO, b" sirad");
     print_judgement(sirad_judge::judge(s));
     io::write_all(STDOUT_FILENO, b" mmwave");
-    print_judgement(mmwave_judge::judge(s));
+    print_judgement(mmwave_judge::judge(s, PacketDialect::MmWave));
+    io::write_all(STDOUT_FILENO, b" vital");
+    print_judgement(mmwave_judge::judge(s, PacketDialect::VitalSigns));
     io::write_all(STDOUT_FILENO, b"\n");
 }
 

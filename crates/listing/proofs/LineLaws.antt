@@ -11,7 +11,7 @@ use Rattle.digits.specs.Stores.{stored}
 use Rattle.digits.proofs.StoreLaws.{stored-nil, stored-append}
 use Rattle.reading.specs.Reading.{flat}
 use Rattle.reading.specs.declared.Row.{Row}
-use Rattle.listing.specs.Decimal.{decimal, width}
+use Rattle.listing.specs.Decimal.{width}
 use Rattle.listing.specs.Lines.{letter, field, fields, rowLine, rowLines, headerLine, endLine, lineFeed}
 use Rattle.listing.specs.Internal.{Puts, Lays, tableLines, tableText, firstOf, heldRows}
 use Rattle.listing.proofs.PutLaws.{puts-then, lays-puts, lays-fit, lays-unfit}

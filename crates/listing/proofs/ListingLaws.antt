@@ -2,7 +2,7 @@
 use mathlib.Core.Bool.{true, cond}
 use mathlib.Core.Path.{_≡_, refl, sym, ap, _∙_}
 use mathlib.Core.List.{List, [], _∷_, _++_}
-use Prim.Native.Nat.{ℕ, _+_, _*_, _≤_, _<_}
+use Prim.Native.Nat.{ℕ, _*_, _≤_, _<_}
 use native.Mathlib.Omega.{arith}
 use native.Mathlib.Nat.{zero-add}
 use native.Mathlib.Decide.{decLt}
@@ -13,7 +13,7 @@ use Rattle.digits.specs.Stores.{stored, storedWithin, Writes}
 use Rattle.digits.specs.declared.Written.{Written}
 use Rattle.digits.proofs.StoreLaws.{length-stored, within-fits, short, done}
 use Rattle.reading.specs.Answers.{answered, roomIn}
-use Rattle.reading.specs.Reading.{Reading, reading, flat, rowWidth, lengths}
+use Rattle.reading.specs.Reading.{Reading, reading, flat, rowWidth}
 use Rattle.reading.specs.declared.Answer.{Answer}
 use Rattle.reading.specs.declared.Row.{Row}
 use Rattle.reading.proofs.Rows.{numbers-behind-stay, lengths-and-skips-are-next, next-within}

@@ -1,12 +1,12 @@
 -- Text that is put piece by piece is the text put at once: each piece goes behind the one before.
 use mathlib.Core.Path.{_≡_, refl, sym, ap, _∙_}
 use mathlib.Core.List.{List, [], _∷_, _++_}
-use Prim.Native.Nat.{ℕ, suc, _+_, _≤_, _<_}
+use Prim.Native.Nat.{ℕ, _+_, _≤_, _<_}
 use native.Mathlib.Omega.{arith}
 use borrow.Author.Tests.{le-leb, lt-leb}
 use lib.ListN.{length, take, set, length-append}
 use lib.Seq.{length-take-le}
-use Rattle.digits.specs.Stores.{stored, storedWithin}
+use Rattle.digits.specs.Stores.{storedWithin}
 use Rattle.digits.proofs.StoreLaws.{stored-one, length-stored, then, within-fits, within-unfit}
 use Rattle.listing.specs.Internal.{Puts, Lays}
 

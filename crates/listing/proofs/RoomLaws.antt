@@ -13,8 +13,9 @@ use Rattle.form.specs.declared.Judgement.the-variants.{Whole, Bad, Waiting}
 use Rattle.form.proofs.PieceLaws.{seq-inverse, marker-inverse}
 use Rattle.form.proofs.Theorems.{whole-read}
 use Rattle.sirad.proofs.TableLaws.{total-least, whole-length}
+use Rattle.mmwave.specs.Profile.{Profile}
 use Rattle.mmwave.specs.Packet.{packet, magic}
-use Rattle.mmwave.specs.MmWave.{mmWave}
+use Rattle.mmwave.specs.Dialects.{profileOf}
 use Rattle.reading.specs.Reading.{Reading, read, reading, onPlace, found, skip, lengths, stateFull, stateEnd}
 use Rattle.reading.specs.Leftmost.{RowsStand}
 use Rattle.reading.specs.declared.Row.{Row}
@@ -22,15 +23,15 @@ use Rattle.reading.proofs.Rows.{rows-fit, rows-stand, lengths-and-skips-are-nex
 use Rattle.reading.proofs.LeftmostLaws.{leftmost-exists, room-is-end}
 use Rattle.capture.specs.Dialects.{judgeOf, formOf}
 use Rattle.capture.specs.declared.Dialect.{Dialect}
-use Rattle.capture.specs.declared.Dialect.the-variants.{Sirad, Mmwave}
+use Rattle.capture.specs.declared.Dialect.the-variants.{Sirad, Packets}
 use Rattle.capture.proofs.Wires.{lawful-of}
 use Rattle.listing.specs.Listing.{closedReading}
 
 -- -- The shortest frame
 
-packet-least : (k n : ℕ) (bs : List ℕ) → judge (packet mmWave) 0 bs ≡ Whole k n → 8 ≤ n
+packet-least : (P : Profile) (k n : ℕ) (bs : List ℕ) → judge (packet P) 0 bs ≡ Whole k n → 8 ≤ n
 unfolding packet magic
-packet-least k n bs h =
+packet-least P k n bs h =
     let s = seq-inverse _ _ 0 bs k n h in
     let m = marker-inverse _ _ 0 bs (s .0) (s .1) (s .2) in
     let r = whole-read _ k (s .1) n (drop (s .1) bs) (s .3) in
@@ -40,7 +41,7 @@ packet-least k n bs h =
 pub frame-least : (d : Dialect) (k n : ℕ) (bs : List ℕ) → judgeOf d bs ≡ Whole k n → 8 ≤ n
 unfolding formOf
 frame-least Sirad k n bs h = omega (arith, whole-length k n bs h, total-least k (hexAt 4 2 bs))
-frame-least Mmwave k n bs h = packet-least k n bs h
+frame-least (Packets d) k n bs h = packet-least (profileOf d) k n bs h
 
 -- -- Rows and bytes
 

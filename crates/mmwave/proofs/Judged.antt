@@ -1,211 +1,246 @@
--- Each reason of the whole judgement, in the paper's words. The idea: the room that the form carries is what L leaves behind the headers of
--- the records left.
+-- Each reason of the whole judgement, and where the bytes end inside a field, in the papers' words, for any sound profile that says them.
+-- The idea: the room that the form carries is what L leaves behind the headers of the records left.
 use mathlib.Core.Bool.{Bool, true, false}
-use mathlib.Core.Path.{_≡_, refl, sym, ap, _∙_}
+use mathlib.Core.Path.{_≡_, refl}
 use mathlib.Core.List.{List}
-use mathlib.Core.Logic.{_↔_}
-use Prim.Native.Nat.{ℕ, zero, suc, _+_, _-_, _*_, _%_, _<_, _≤_}
+use mathlib.Core.Logic.{_↔_, _⊎_, inl, inr}
+use Prim.Native.Nat.{ℕ, suc, _+_, _-_, _*_, _≤_}
 use native.Mathlib.Omega.{arith}
-use lib.ListN.{length, take}
+use lib.Dec.{eqb}
+use borrow.Author.Tests.{eqb-true}
+use Rattle.digits.specs.Bytes.{Bytes}
 use Rattle.digits.specs.LittleEndian.{littleAt}
-use Rattle.digits.proofs.Choices.{and-right}
-use Rattle.form.specs.declared.Judgement.{Judgement}
-use Rattle.form.specs.declared.Judgement.the-variants.{Bad}
-use Rattle.form.specs.Form.{judge}
+use Rattle.digits.proofs.Choices.{and-left}
+use Rattle.form.specs.declared.Judgement.the-variants.{Bad, Waiting}
+use Rattle.form.specs.Form.{judge, Inside, Completable}
 use Rattle.form.specs.Pieces.{Broken}
-use Rattle.mmwave.specs.declared.Rule.{Rule}
-use Rattle.mmwave.specs.Profile.{Profile, legal, typeOk, lengthOk, Sound}
+use Rattle.mmwave.specs.Profile.{Profile, legal, fits, typeOk, lengthOk, Sound, Fair}
 use Rattle.mmwave.specs.Packet.{magic, packet}
-use Rattle.mmwave.specs.MmWave.{mmWave}
-use Rattle.mmwave.specs.Document.{HeaderHolds, Reached, first, next, Refused, at-magic, at-total, at-count, at-type, at-length}
-use Rattle.mmwave.specs.Paper.{LegalPayload, LengthFits, TypeFits, HeaderPasses, Passed, header, behind, TotalLegal, TotalRefused}
-use Rattle.mmwave.specs.Paper.{CountRefused, TypeRefused, LengthRefused}
-use Rattle.mmwave.proofs.MmWaveSound.{mmWave-sound, total-bounds}
-use Rattle.mmwave.proofs.Paper.{total-legal}
+use Rattle.mmwave.specs.Document.{HoldsBefore, Reached, first, next, EndsInside, in-header, in-type, in-length, Refused}
+use Rattle.mmwave.specs.Document.{at-magic, at-total, at-objects, at-count, at-subframe, at-type, at-length}
+use Rattle.mmwave.specs.Paper.{Sentences, magicBytes, LengthFits, TypeFits, ChecksBefore, Passed, header, behind, TotalRefused}
+use Rattle.mmwave.specs.Paper.{ObjectsRefused, CountRefused, SubframeRefused, TypeRefused, LengthRefused, Choose, Due}
+use Rattle.mmwave.specs.Paper.{EndsInField, header-field, type-field, length-field}
+use Rattle.mmwave.proofs.RecordLaws.{count-room, passed-fits}
+use Rattle.mmwave.proofs.Sounds.{fair-start, fair-less}
+use Rattle.mmwave.proofs.Theorems.{packet-waits, packet-inside}
+use Rattle.mmwave.proofs.Paper.{Says}
 use Rattle.mmwave.proofs.Reasons.{reason-22, count-exactly, type-exactly, length-exactly, fails-exactly}
 use Rattle.mmwave.proofs.Refusals.{bad-exactly}
+use Rattle.mmwave.proofs.Insides.{inside-exactly}
 
--- the room is what the total length leaves behind the headers of the records left
-pub record Roomed (bs : List ℕ) (k p room : ℕ) : Type 0 where
-  pub aligned : littleAt 4 12 bs % 32 ≡ 0
-  pub headers : p + 8 * k ≤ littleAt 4 12 bs
-  pub is-room : room ≡ littleAt 4 12 bs - (p + 8 * k)
+-- the room is what a legal total length leaves behind the headers of the records left, and it is fair
+record Roomed (P : Profile) (bs : List ℕ) (k p room : ℕ) : Type 0 where
+  total : P .total (littleAt 4 12 bs) ≡ true
+  headers : p + 8 * k ≤ littleAt 4 12 bs
+  is-room : room ≡ littleAt 4 12 bs - (p + 8 * k)
+  fair : Fair P room
 
--- the test of a total length is the paper's sentence
-pub total-exactly : (l : ℕ) → (mmWave .total l ≡ true) ↔ TotalLegal l
-unfolding mmWave
-total-exactly l = (total-bounds l, λ b. total-legal l (b .0) (b .1) (b .2))
+module _ (P : Profile) (S : Sound P) (W : Sentences) (says : Says P W) (bs : List ℕ) where
+  abbrev L : ℕ
+  L = littleAt 4 12 bs
 
-module _ (bs : List ℕ) where
-  pub reached-room : {k p room : ℕ} → Reached mmWave bs k p room → Roomed bs k p room
-  unfolding mmWave lengthOk
-  reached-room (first h) =
-      record {
-        aligned = total-bounds (littleAt 4 12 bs) (h .total) .0;
-        headers = mmWave-sound .count-room (littleAt 4 12 bs) (littleAt 4 32 bs) (h .count);
-        is-room = refl;
-      }
-  reached-room (next {k = k} {p = p} {room = room} r t l w) =
-      let g = reached-room r in let m = littleAt 4 (p + 4) bs in let n = littleAt 4 28 bs in
-      let i = mmWave-sound .length-reads n k room m .0
-      (and-right (legal (mmWave .rule (littleAt 4 p bs) n) m) (mmWave .fits (suc k) room m) l) .0 in
-      record {
-        aligned = g .aligned;
-        headers = omega (arith, g .headers, g .is-room, i);
-        is-room = omega (arith, g .headers, g .is-room, i);
-      }
+  abbrev N : ℕ
+  N = littleAt 4 28 bs
 
-  pub type-words : (k p room : ℕ) → Roomed bs (suc k) p room
-      → (typeOk mmWave (littleAt 4 28 bs) (suc k) room (littleAt 4 p bs) ≡ true) ↔ TypeFits (littleAt 4 28 bs) (littleAt 4 12 bs) p k
-      (littleAt 4 p bs)
-  type-words k p room g =
-      rw (g .is-room) (type-exactly (littleAt 4 28 bs) (littleAt 4 12 bs) p k (g .aligned) (g .headers) (littleAt 4 p bs))
+  abbrev K : ℕ
+  K = littleAt 4 32 bs
 
-  length-words : (k p room : ℕ) → Roomed bs (suc k) p room
-      → (lengthOk mmWave (mmWave .rule (littleAt 4 p bs) (littleAt 4 28 bs)) (suc k) room (littleAt 4 (p + 4) bs) ≡ true)
-      ↔ (LegalPayload (littleAt 4 28 bs) (littleAt 4 p bs) (littleAt 4 (p + 4) bs)
-      × LengthFits (littleAt 4 28 bs) (littleAt 4 12 bs) p k (littleAt 4 (p + 4) bs))
-  length-words k p room g =
-      rw (g .is-room) (length-exactly (littleAt 4 28 bs) (littleAt 4 12 bs) p k (g .aligned) (g .headers) (littleAt 4 p bs)
-      (littleAt 4 (p + 4) bs))
+  abbrev typeAt : ℕ → ℕ
+  typeAt p = littleAt 4 p bs
 
-  header-forth : HeaderHolds mmWave bs → HeaderPasses bs
-  unfolding mmWave magic
-  header-forth h = let b = total-bounds (littleAt 4 12 bs) (h .total) in
-      let c = count-exactly (littleAt 4 28 bs) (littleAt 4 12 bs) (littleAt 4 32 bs) (h .total) .0 (h .count) in record {
-        starts = h .starts;
-        multiple = b .0;
-        at-least = b .1;
-        at-most = b .2;
-        count = c .0;
-        count-fits = c .1;
-        within = h .within;
-      }
+  abbrev lengthAt : ℕ → ℕ
+  lengthAt p = littleAt 4 (p + 4) bs
 
-  header-back : HeaderPasses bs → HeaderHolds mmWave bs
-  unfolding mmWave magic
-  header-back h = let t = total-legal (littleAt 4 12 bs) (h .multiple) (h .at-least) (h .at-most) in record {
-    starts = h .starts;
-    total = t;
-    count = count-exactly (littleAt 4 28 bs) (littleAt 4 12 bs) (littleAt 4 32 bs) t .1 (h .count, h .count-fits);
-    within = h .within;
+  -- -- The header
+
+  -- the profile's tests before an offset are the papers' checks
+  pub checks-forth : (at : ℕ) → HoldsBefore P bs at → ChecksBefore W bs at
+  unfolding magic
+  checks-forth at b = record {
+    starts = b .starts;
+    total = λ i. says .total-says L .0 (b .total i);
+    objects = λ i. says .objects-says N .0 (b .objects i);
+    count = λ i. count-exactly P S W says N L K (b .total (omega arith)) .0 (b .count i);
+    subframe = λ i. says .subframe-says (littleAt 4 36 bs) .0 (b .subframe i);
   }
 
-  -- where the form's checks have come to, the paper's have
-  pub passed-forth : {k p room : ℕ} → Reached mmWave bs k p room → Passed bs k p
-  passed-forth (first h) = header (header-forth h)
+  pub checks-back : (at : ℕ) → ChecksBefore W bs at → HoldsBefore P bs at
+  unfolding magic
+  checks-back at b = record {
+    starts = b .starts;
+    total = λ i. says .total-says L .1 (b .total i);
+    objects = λ i. says .objects-says N .1 (b .objects i);
+    count = λ i. count-exactly P S W says N L K (says .total-says L .1 (b .total (omega arith))) .1 (b .count i);
+    subframe = λ i. says .subframe-says (littleAt 4 36 bs) .1 (b .subframe i);
+  }
+
+  -- -- The records
+
+  reached-room : {k p room : ℕ} → Reached P bs k p room → Roomed P bs k p room
+  unfolding lengthOk
+  reached-room (first b h) = let t = b .total (omega arith) in let c = count-room P L K (b .count (omega arith)) in
+      record { total = t; headers = c; is-room = refl; fair = fair-start P S L K t c }
+  reached-room (next {k = k} {p = p} {room = room} r t l w) =
+      let g = reached-room r in let m = lengthAt p in let rule = P .rule (typeAt p) N in
+      let i = passed-fits P rule (suc k) room m l in
+      record {
+        total = g .total;
+        headers = omega (arith, g .headers, g .is-room, i);
+        is-room = omega (arith, g .headers, g .is-room, i);
+        fair = fair-less P S N (typeAt p) m room (g .fair) (and-left (legal rule m) (fits P (suc k) room m) l) i;
+      }
+
+  type-words : (k p room : ℕ) → Roomed P bs (suc k) p room
+      → (typeOk P N (suc k) room (typeAt p) ≡ true) ↔ TypeFits W N L p k (typeAt p)
+  type-words k p room g =
+      rw (g .is-room) (type-exactly P S W says N L p k (g .total) (g .headers) (rw (g .is-room) at (g .fair)) (typeAt p))
+
+  length-words : (k p room : ℕ) → Roomed P bs (suc k) p room
+      → (lengthOk P (P .rule (typeAt p) N) (suc k) room (lengthAt p) ≡ true)
+      ↔ (W .Legal N (typeAt p) (lengthAt p) × LengthFits W N L p k (lengthAt p))
+  length-words k p room g =
+      rw (g .is-room) (length-exactly P S W says N L p k (g .total) (g .headers) (rw (g .is-room) at (g .fair)) (typeAt p) (lengthAt p))
+
+  -- where the form's checks have come to, the papers' have
+  pub passed-forth : {k p room : ℕ} → Reached P bs k p room → Passed W bs k p
+  passed-forth (first b h) = header (checks-forth 40 b) h
   passed-forth (next {k = k} {p = p} {room = room} r t l w) = let g = length-words k p room (reached-room r) .0 l in
       behind {k = k} {p = p} (passed-forth r) (g .0) (g .1) w
 
-  -- where the paper's checks have come to, the form's have, with the room that L leaves
-  pub passed-back : {k p : ℕ} → Passed bs k p → (room : ℕ) × Reached mmWave bs k p room
-  passed-back (header h) = (littleAt 4 12 bs - (40 + 8 * littleAt 4 32 bs), first (header-back h))
+  -- where the papers' checks have come to, the form's have, with the room that L leaves
+  pub passed-back : {k p : ℕ} → Passed W bs k p → (room : ℕ) × Reached P bs k p room
+  passed-back (header b h) = (L - (40 + 8 * K), first (checks-back 40 b) h)
   passed-back (behind {k = k} {p = p} r a b w) =
-      let g = passed-back r in let q = reached-room (g .1) in
-      let m = littleAt 4 (p + 4) bs in
+      let g = passed-back r in let q = reached-room (g .1) in let m = lengthAt p in
       (g .0 - m, next {k = k} {p = p} {room = g .0} (g .1) (type-words k p (g .0) q .1 (m, a, b)) (length-words k p (g .0) q .1 (a, b)) w)
 
-  type-refused : (r : ℕ) → Refused mmWave bs r → r ≡ 23 → TypeRefused bs
-  type-refused r (at-magic b) e = absurd (omega arith)
-  type-refused r (at-total s h t) e = absurd (omega arith)
-  type-refused r (at-count s t h c) e = absurd (omega arith)
-  type-refused r (at-type {k = k} {p = p} {room = room} c h t) e = record {
-    left = k;
-    offset = p;
-    passed = passed-forth c;
-    there = h;
-    lacks = fails-exactly (typeOk mmWave (littleAt 4 28 bs) (suc k) room (littleAt 4 p bs)) (type-words k p room (reached-room c)) .0 t;
-  }
-  type-refused r (at-length c h t l) e = absurd (omega arith)
+  -- -- The reasons
 
-  length-refused : (r : ℕ) → Refused mmWave bs r → r ≡ 24 → LengthRefused bs
-  length-refused r (at-magic b) e = absurd (omega arith)
-  length-refused r (at-total s h t) e = absurd (omega arith)
-  length-refused r (at-count s t h c) e = absurd (omega arith)
-  length-refused r (at-type c h t) e = absurd (omega arith)
-  length-refused r (at-length {k = k} {p = p} {room = room} c h t l) e = let q = reached-room c in record {
+  total-fails : (P .total L ≡ false) ↔ (W .Total L → ⊥)
+  total-fails = fails-exactly (P .total L) (says .total-says L)
+
+  objects-fails : (P .objects N ≡ false) ↔ (W .Objects N → ⊥)
+  objects-fails = fails-exactly (P .objects N) (says .objects-says N)
+
+  subframe-fails : (P .subframe (littleAt 4 36 bs) ≡ false) ↔ (W .Subframe (littleAt 4 36 bs) → ⊥)
+  subframe-fails = fails-exactly (P .subframe (littleAt 4 36 bs)) (says .subframe-says (littleAt 4 36 bs))
+
+  type-fails : (k p room : ℕ) → Roomed P bs (suc k) p room
+      → (typeOk P N (suc k) room (typeAt p) ≡ false) ↔ (TypeFits W N L p k (typeAt p) → ⊥)
+  type-fails k p room q = fails-exactly (typeOk P N (suc k) room (typeAt p)) (type-words k p room q)
+
+  length-fails : (k p room : ℕ) → Roomed P bs (suc k) p room
+      → (lengthOk P (P .rule (typeAt p) N) (suc k) room (lengthAt p) ≡ false)
+      ↔ (W .Legal N (typeAt p) (lengthAt p) × LengthFits W N L p k (lengthAt p) → ⊥)
+  length-fails k p room q = fails-exactly (lengthOk P (P .rule (typeAt p) N) (suc k) room (lengthAt p)) (length-words k p room q)
+
+  due : {r : ℕ} → Refused P bs r → Due W bs r
+  unfolding magic
+  due (at-magic b) = b
+  due (at-total b h t) = record { before = checks-forth 12 b; there = h; lacks = total-fails .0 t }
+  due (at-objects b h t) = inl (record { before = checks-forth 28 b; there = h; lacks = objects-fails .0 t })
+  due (at-count b h t) =
+      record { before = checks-forth 32 b; there = h; lacks = reason-22 P S W says N L K (b .total (omega arith)) .0 t }
+  due (at-subframe b h t) = inr (record { before = checks-forth 36 b; there = h; lacks = subframe-fails .0 t })
+  due (at-type {k = k} {p = p} {room = room} c h t) =
+      record { left = k; offset = p; passed = passed-forth c; there = h; lacks = type-fails k p room (reached-room c) .0 t }
+  due (at-length {k = k} {p = p} {room = room} c h t l) = let q = reached-room c in record {
     left = k;
     offset = p;
     passed = passed-forth c;
     there = h;
     type-fits = type-words k p room q .0 t;
-    lacks = fails-exactly (lengthOk mmWave (mmWave .rule (littleAt 4 p bs) (littleAt 4 28 bs)) (suc k) room (littleAt 4 (p + 4) bs))
-        (length-words k p room q) .0 l;
+    lacks = length-fails k p room q .0 l;
   }
 
-  -- judged bad with 23 exactly if a type is there, every check before it holds, and no legal payload length of this type lets the records
-  -- end so that L fits
-  pub judged-23 : (judge (packet mmWave) 0 bs ≡ Bad 23) ↔ TypeRefused bs
-  judged-23 = (λ w. type-refused 23 (bad-exactly mmWave bs 23 .0 w) refl, back)
+  total-due : TotalRefused W bs → Refused P bs 21
+  total-due f = at-total (checks-back 12 (f .before)) (f .there) (total-fails .1 (f .lacks))
+
+  count-due : CountRefused W bs → Refused P bs 22
+  count-due f = let b = checks-back 32 (f .before) in
+      at-count b (f .there) (reason-22 P S W says N L K (b .total (omega arith)) .1 (f .lacks))
+
+  type-due : TypeRefused W bs → Refused P bs 23
+  type-due f = let k = f .left in let p = f .offset in let g = passed-back (f .passed) in
+      at-type {k = k} {p = p} {room = g .0} (g .1) (f .there) (type-fails k p (g .0) (reached-room (g .1)) .1 (f .lacks))
+
+  length-due : LengthRefused W bs → Refused P bs 24
+  length-due f = let k = f .left in let p = f .offset in let g = passed-back (f .passed) in let q = reached-room (g .1) in
+      at-length {k = k} {p = p} {room = g .0} (g .1) (f .there) (type-words k p (g .0) q .1 (f .type-fits))
+      (length-fails k p (g .0) q .1 (f .lacks))
+
+  fixed-due : ObjectsRefused W bs ⊎ SubframeRefused W bs → Refused P bs 26
+  fixed-due (inl f) = at-objects (checks-back 28 (f .before)) (f .there) (objects-fails .1 (f .lacks))
+  fixed-due (inr f) = at-subframe (checks-back 36 (f .before)) (f .there) (subframe-fails .1 (f .lacks))
+
+  refused : (r : ℕ) → Due W bs r → Refused P bs r
+  unfolding magic
+  refused r =
+      one 20 (Broken magicBytes bs) _ at-magic
+      (one 21 (TotalRefused W bs) _ total-due
+      (one 22 (CountRefused W bs) _ count-due
+      (one 23 (TypeRefused W bs) _ type-due
+      (one 24 (LengthRefused W bs) _ length-due
+      (one 26 (ObjectsRefused W bs ⊎ SubframeRefused W bs) ⊥ fixed-due (λ z. absurd z))))))
     where
-      back : TypeRefused bs → judge (packet mmWave) 0 bs ≡ Bad 23
-      back f = let k = f .left in let p = f .offset in let g = passed-back (f .passed) in
-          bad-exactly mmWave bs 23 .1
-          (at-type {k = k} {p = p} {room = g .0} (g .1) (f .there)
-          (fails-exactly (typeOk mmWave (littleAt 4 28 bs) (suc k) (g .0) (littleAt 4 p bs))
-          (type-words k p (g .0) (reached-room (g .1))) .1 (f .lacks)))
+      one : (i : ℕ) (A B : Type 0) → (A → Refused P bs i) → (B → Refused P bs r) → Choose (eqb r i) A B → Refused P bs r
+      one i A B f g = go (eqb r i) refl
+        where
+          go : (b : Bool) → eqb r i ≡ b → Choose b A B → Refused P bs r
+          go true e a = let h = f a in rw (eqb-true r i e) h
+          go false e a = g a
 
-  -- judged bad with 24 exactly if a payload length is there, every check before it holds, and it is not legal for its type or does not let
-  -- the records end so that L fits
-  pub judged-24 : (judge (packet mmWave) 0 bs ≡ Bad 24) ↔ LengthRefused bs
-  judged-24 = (λ w. length-refused 24 (bad-exactly mmWave bs 24 .0 w) refl, back)
-    where
-      back : LengthRefused bs → judge (packet mmWave) 0 bs ≡ Bad 24
-      back f = let k = f .left in let p = f .offset in let g = passed-back (f .passed) in let q = reached-room (g .1) in
-          bad-exactly mmWave bs 24 .1
-          (at-length {k = k} {p = p} {room = g .0} (g .1) (f .there) (type-words k p (g .0) q .1 (f .type-fits))
-          (fails-exactly (lengthOk mmWave (mmWave .rule (littleAt 4 p bs) (littleAt 4 28 bs)) (suc k) (g .0) (littleAt 4 (p + 4) bs))
-          (length-words k p (g .0) q) .1 (f .lacks)))
+  -- judged bad with a reason exactly if the reason is due, in the papers' words
+  pub judged-bad : (r : ℕ) → (judge (packet P) 0 bs ≡ Bad r) ↔ Due W bs r
+  judged-bad r = let f = bad-exactly P bs r in (λ w. due (f .0 w), λ d. f .1 (refused r d))
 
-  magic-refused : (r : ℕ) → Refused mmWave bs r → r ≡ 20 → Broken magic bs
-  magic-refused r (at-magic b) e = b
-  magic-refused r (at-total s h t) e = absurd (omega arith)
-  magic-refused r (at-count s t h c) e = absurd (omega arith)
-  magic-refused r (at-type c h t) e = absurd (omega arith)
-  magic-refused r (at-length c h t l) e = absurd (omega arith)
+  -- 20: a byte that is there is another than the magic's, and those before it are as in the magic
+  pub judged-20 : (judge (packet P) 0 bs ≡ Bad 20) ↔ Broken magicBytes bs
+  judged-20 = judged-bad 20
 
-  -- judged bad with 20 exactly if a byte that is there is another than the magic's, and those before it are as in the magic
-  pub judged-20 : (judge (packet mmWave) 0 bs ≡ Bad 20) ↔ Broken magic bs
-  judged-20 = (λ w. magic-refused 20 (bad-exactly mmWave bs 20 .0 w) refl, λ b. bad-exactly mmWave bs 20 .1 (at-magic b))
+  -- 21: the total length is not legal
+  pub judged-21 : (judge (packet P) 0 bs ≡ Bad 21) ↔ TotalRefused W bs
+  judged-21 = judged-bad 21
 
-  total-refused : (r : ℕ) → Refused mmWave bs r → r ≡ 21 → TotalRefused bs
-  unfolding magic
-  total-refused r (at-magic b) e = absurd (omega arith)
-  total-refused r (at-total s h t) e =
-      record { starts = s; there = h; lacks = fails-exactly (mmWave .total (littleAt 4 12 bs)) (total-exactly (littleAt 4 12 bs)) .0 t }
-  total-refused r (at-count s t h c) e = absurd (omega arith)
-  total-refused r (at-type c h t) e = absurd (omega arith)
-  total-refused r (at-length c h t l) e = absurd (omega arith)
+  -- 22: the record count is over 32, or no so many records can end so that L fits
+  pub judged-22 : (judge (packet P) 0 bs ≡ Bad 22) ↔ CountRefused W bs
+  judged-22 = judged-bad 22
 
-  -- judged bad with 21 exactly if the total length is there, the magic holds, and the total length is not legal
-  pub judged-21 : (judge (packet mmWave) 0 bs ≡ Bad 21) ↔ TotalRefused bs
-  unfolding magic
-  judged-21 = (
-    λ w. total-refused 21 (bad-exactly mmWave bs 21 .0 w) refl,
-    λ f. bad-exactly mmWave bs 21 .1 (at-total (f .starts) (f .there)
-        (fails-exactly (mmWave .total (littleAt 4 12 bs)) (total-exactly (littleAt 4 12 bs)) .1 (f .lacks))),
-  )
+  -- 23: no legal payload length of this type lets the records end so that L fits
+  pub judged-23 : (judge (packet P) 0 bs ≡ Bad 23) ↔ TypeRefused W bs
+  judged-23 = judged-bad 23
 
-  count-refused : (r : ℕ) → Refused mmWave bs r → r ≡ 22 → CountRefused bs
-  unfolding magic
-  count-refused r (at-magic b) e = absurd (omega arith)
-  count-refused r (at-total s h t) e = absurd (omega arith)
-  count-refused r (at-count s t h c) e = record {
-    starts = s;
-    total = total-exactly (littleAt 4 12 bs) .0 t;
-    there = h;
-    lacks = reason-22 (littleAt 4 28 bs) (littleAt 4 12 bs) (littleAt 4 32 bs) t .0 c;
-  }
-  count-refused r (at-type c h t) e = absurd (omega arith)
-  count-refused r (at-length c h t l) e = absurd (omega arith)
+  -- 24: the payload length is not legal for its type or does not let the records end so that L fits
+  pub judged-24 : (judge (packet P) 0 bs ≡ Bad 24) ↔ LengthRefused W bs
+  judged-24 = judged-bad 24
 
-  -- judged bad with 22 exactly if the record count is there, every check before it holds, and it is over 32 or no so many records can end
-  -- so that L fits
-  pub judged-22 : (judge (packet mmWave) 0 bs ≡ Bad 22) ↔ CountRefused bs
-  unfolding magic
-  judged-22 = (
-    λ w. count-refused 22 (bad-exactly mmWave bs 22 .0 w) refl,
-    λ f. let t = total-exactly (littleAt 4 12 bs) .1 (f .total) in
-        bad-exactly mmWave bs 22 .1 (at-count (f .starts) t (f .there)
-        (reason-22 (littleAt 4 28 bs) (littleAt 4 12 bs) (littleAt 4 32 bs) t .1 (f .lacks))),
-  )
+  -- 26: the object count or the subframe is not legal
+  pub judged-26 : (judge (packet P) 0 bs ≡ Bad 26) ↔ (ObjectsRefused W bs ⊎ SubframeRefused W bs)
+  judged-26 = judged-bad 26
+
+  -- -- Ending inside a four-byte field
+
+  ends-forth : EndsInside P bs → EndsInField W bs
+  ends-forth (in-header i h b c) = header-field i h (checks-forth (8 + 4 * i) b) c
+  ends-forth (in-type {k = k} {p = p} r c) = type-field {k = k} {p = p} (passed-forth r) c
+  ends-forth (in-length {k = k} {p = p} {room = room} r t c) =
+      length-field {k = k} {p = p} (passed-forth r) (type-words k p room (reached-room r) .0 t) c
+
+  ends-back : EndsInField W bs → EndsInside P bs
+  ends-back (header-field i h b c) = in-header i h (checks-back (8 + 4 * i) b) c
+  ends-back (type-field {k = k} {p = p} r c) = let g = passed-back r in in-type {k = k} {p = p} {room = g .0} (g .1) c
+  ends-back (length-field {k = k} {p = p} r t c) = let g = passed-back r in
+      in-length {k = k} {p = p} {room = g .0} (g .1) (type-words k p (g .0) (reached-room (g .1)) .1 t) c
+
+  -- the form's bytes end inside a field exactly if the packet's do, in the papers' words
+  pub ends-exactly : Inside (packet P) bs ↔ EndsInField W bs
+  ends-exactly = let e = inside-exactly P bs in (λ i. ends-forth (e .0 i), λ f. e .1 (ends-back f))
+
+  -- bytes that do not end inside a four-byte field wait exactly if no packet stands and some further bytes complete one
+  pub waits-outside : Bytes bs → (EndsInField W bs → ⊥) → (judge (packet P) 0 bs ≡ Waiting) ↔ Completable (packet P) bs
+  waits-outside b o = packet-waits P S bs b (λ i. o (ends-exactly .0 i))
+
+  -- bytes that end inside a four-byte field wait
+  pub waits-inside : EndsInField W bs → judge (packet P) 0 bs ≡ Waiting
+  waits-inside e = packet-inside P bs (ends-exactly .1 e)

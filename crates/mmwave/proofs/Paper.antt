@@ -1,143 +1,104 @@
--- The paper's sentences are what the form and its tests say. The idea: with l a multiple of 32, "the smallest multiple of 32 not below e"
--- is e ≤ l < e + 32.
-use mathlib.Core.Bool.{Bool, true, false, cond, _&&_}
-use mathlib.Core.Path.{_≡_, refl, sym, ap, _∙_}
+-- The papers' packet is the form's frame, for any sound profile whose tests say the papers' sentences.
+use mathlib.Core.Bool.{true}
+use mathlib.Core.Path.{_≡_, sym, ap, _∙_}
 use mathlib.Core.List.{List}
 use mathlib.Core.Logic.{_↔_}
-use Prim.Native.Nat.{ℕ, zero, suc, _+_, _-_, _*_, _%_, _/_, _^_, _<_, _≤_}
+use Prim.Native.Nat.{ℕ, _+_, _-_, _*_, _%_, _≤_}
+use native.Mathlib.Nat.{zero-mod}
 use native.Mathlib.Omega.{arith}
-use native.Mathlib.Decide.{decLe, decLt}
-use lib.Dec.{eqb, leb, ltb}
 use lib.ListN.{length}
-use borrow.Author.Tests.{eq-eqb, ne-eqb, le-leb, lt-ltb, eqb-true, eqb-false, leb-true, ltb-true}
 use Rattle.digits.specs.LittleEndian.{littleAt}
 use Rattle.form.specs.Form.{Frame}
-use Rattle.mmwave.specs.declared.Rule.{Rule}
-use Rattle.mmwave.specs.declared.Rule.the-variants.{Never, Exact, Even, Fours, Free}
-use Rattle.mmwave.specs.Profile.{Profile, legal, typeOk, lengthOk, Fills, Sound}
+use Rattle.mmwave.specs.Profile.{Profile, legal, Sound, Fair}
 use Rattle.mmwave.specs.Packet.{magic, packet}
-use Rattle.mmwave.specs.MmWave.{mmWave, totalLegal, payloadRule, perObject}
 use Rattle.mmwave.specs.Document.{Records, none, more, Laid}
-use Rattle.mmwave.specs.Paper.{LegalPayload, Smallest, RecordsTo, Packet, Later, nothing, later, CountFits, LengthFits, TypeFits}
+use Rattle.mmwave.specs.Paper.{Sentences, RecordsTo, Packet}
 use Rattle.mmwave.specs.Paper.{none as none·paper, more as more·paper}
-use Rattle.mmwave.proofs.RecordLaws.{length-both}
-use Rattle.mmwave.proofs.MmWaveSound.{mmWave-sound, total-bounds}
-use Rattle.mmwave.proofs.Document.{frame-exactly-if-laid, records-least}
+use Rattle.mmwave.proofs.Sounds.{fair-more}
+use Rattle.mmwave.proofs.Document.{frame-exactly-if-laid, records-least, records-end}
 
--- -- Payload lengths
+-- the tests of a profile say a dialect's sentences; without records L is the least; and an L within the bounds is legal where records of
+-- whole units end so that it fits
+pub record Says (P : Profile) (W : Sentences) : Type 0 where
+  pub kind-is : P .kind ≡ W .kind
+  pub legal-says : (n type m : ℕ) → (legal (P .rule type n) m ≡ true) ↔ W .Legal n type m
+  pub total-says : (l : ℕ) → (P .total l ≡ true) ↔ W .Total l
+  pub objects-says : (n : ℕ) → (P .objects n ≡ true) ↔ W .Objects n
+  pub subframe-says : (v : ℕ) → (P .subframe v ≡ true) ↔ W .Subframe v
+  pub fits-near : (e l : ℕ) → W .Fits e l → (e ≤ l) × (l - e ≤ P .padding)
+  pub near-fits : (e l : ℕ) → P .total l ≡ true → e ≤ l → l - e ≤ P .padding → W .Fits e l
+  pub bounds : (l : ℕ) → P .total l ≡ true → (W .least ≤ l) × (l ≤ 32768)
+  pub alone : (l : ℕ) → P .total l ≡ true → (l - 40 ≤ P .padding) ↔ (l ≡ W .least)
+  pub total-follows : (k e l : ℕ) → W .least ≤ l → l ≤ 32768 → W .Fits (40 + e) l → Fair P e → 8 * k ≤ e → (k ≡ 0 → e ≡ 0)
+      → P .total l ≡ true
 
-per-object : (size n m : ℕ) → legal (perObject size n) m ≡ true → (m ≡ size * n) × (n ≡ 0 → ⊥)
-unfolding perObject
-per-object size n m h = go (eqb n 0) refl h
+-- records take whole units
+records-fair : (P : Profile) (S : Sound P) (bs : List ℕ) (n : ℕ) {k p e : ℕ} → Records P bs n k p e → Fair P (e - p)
+records-fair P S bs n {p = p} none = ap (λ (x : ℕ). x % P .unit) nothing ∙ zero-mod (P .unit)
   where
-    go : (b : Bool) → eqb n 0 ≡ b → legal (cond b Never (Exact (size * n))) m ≡ true → (m ≡ size * n) × (n ≡ 0 → ⊥)
-    go true a l = let z : _≡_ {A = ℕ} 0 1 = cc in absurd (omega arith)
-    go false a l = (eqb-true m (size * n) l, eqb-false n 0 a)
-
-by-object : (size n m : ℕ) → (m ≡ size * n) × (n ≡ 0 → ⊥) → legal (perObject size n) m ≡ true
-unfolding perObject
-by-object size n m h = rw (ne-eqb n 0 (h .1)) (eq-eqb m (size * n) (h .0))
-
-legal-forth : (n type m : ℕ) → legal (payloadRule type n) m ≡ true → LegalPayload n type m
-unfolding payloadRule
-legal-forth n type m h = record {
-  points = λ e. per-object 16 n m (rw e at h);
-  range-profile = λ e. eqb-true (m % 2) 0 (rw e at h);
-  noise-profile = λ e. eqb-true (m % 2) 0 (rw e at h);
-  azimuth-heatmap = λ e. eqb-true (m % 4) 0 (rw e at h);
-  doppler-heatmap = λ e. eqb-true (m % 2) 0 (rw e at h);
-  statistics = λ e. eqb-true m 24 (rw e at h);
-  side-info = λ e. per-object 4 n m (rw e at h);
-  elevation-heatmap = λ e. eqb-true (m % 4) 0 (rw e at h);
-  temperature = λ e. eqb-true m 28 (rw e at h);
-}
-
-one-type : (type i m : ℕ) (x y : Rule) → (type ≡ i → legal x m ≡ true) → legal y m ≡ true → legal (cond (eqb type i) x y) m ≡ true
-one-type type i m x y f g = go (eqb type i) refl
+    nothing : p - p ≡ 0
+    nothing = omega arith
+records-fair P S bs n {p = p} {e = e} (more {k = k} l r) =
+    ap (λ (x : ℕ). x % P .unit) (parts k (records-least r))
+    ∙ fair-more P S n (littleAt 4 p bs) (littleAt 4 (p + 4) bs) (e - (p + 8 + littleAt 4 (p + 4) bs)) l (records-fair P S bs n r)
   where
-    go : (b : Bool) → eqb type i ≡ b → legal (cond b x y) m ≡ true
-    go true a = f (eqb-true type i a)
-    go false a = g
+    parts : (k : ℕ) → p + 8 + littleAt 4 (p + 4) bs + 8 * k ≤ e
+        → e - p ≡ 8 + littleAt 4 (p + 4) bs + (e - (p + 8 + littleAt 4 (p + 4) bs))
+    parts k h = omega arith
 
-legal-back : (n type m : ℕ) → LegalPayload n type m → legal (payloadRule type n) m ≡ true
-unfolding payloadRule
-legal-back n type m w =
-    one-type type 1 m (perObject 16 n) _ (λ e. by-object 16 n m (w .points e))
-    (one-type type 2 m Even _ (λ e. eq-eqb (m % 2) 0 (w .range-profile e))
-    (one-type type 3 m Even _ (λ e. eq-eqb (m % 2) 0 (w .noise-profile e))
-    (one-type type 4 m Fours _ (λ e. eq-eqb (m % 4) 0 (w .azimuth-heatmap e))
-    (one-type type 5 m Even _ (λ e. eq-eqb (m % 2) 0 (w .doppler-heatmap e))
-    (one-type type 6 m (Exact 24) _ (λ e. eq-eqb m 24 (w .statistics e))
-    (one-type type 7 m (perObject 4 n) _ (λ e. by-object 4 n m (w .side-info e))
-    (one-type type 8 m Fours _ (λ e. eq-eqb (m % 4) 0 (w .elevation-heatmap e))
-    (one-type type 9 m (Exact 28) Free (λ e. eq-eqb m 28 (w .temperature e)) refl))))))))
+module _ (P : Profile) (S : Sound P) (W : Sentences) (says : Says P W) where
+  words-forth : {bs : List ℕ} {n k p e : ℕ} → Records P bs n k p e → RecordsTo W bs n k p e
+  words-forth none = none·paper
+  words-forth {bs = bs} {n = n} (more {p = p} l r) =
+      more·paper (says .legal-says n (littleAt 4 p bs) (littleAt 4 (p + 4) bs) .0 l) (words-forth r)
 
--- the rule's payload lengths are the paper's
-pub legal-exactly : (n type m : ℕ) → (legal (mmWave .rule type n) m ≡ true) ↔ LegalPayload n type m
-unfolding mmWave
-legal-exactly n type m = (legal-forth n type m, legal-back n type m)
+  -- the papers' records are the profile's
+  pub words-back : {bs : List ℕ} {n k p e : ℕ} → RecordsTo W bs n k p e → Records P bs n k p e
+  words-back none·paper = none
+  words-back {bs = bs} {n = n} (more·paper {p = p} l r) =
+      more (says .legal-says n (littleAt 4 p bs) (littleAt 4 (p + 4) bs) .1 l) (words-back r)
 
--- -- The end and the total length
+  laid-packet : (bs : List ℕ) → Laid P bs → Packet W bs
+  unfolding magic
+  laid-packet bs g = let b = says .bounds (length bs) (g .total) in record {
+    starts = g .starts;
+    total = g .says;
+    at-least = b .0;
+    at-most = b .1;
+    objects = says .objects-says (littleAt 4 28 bs) .0 (g .objects);
+    count = g .count;
+    subframe = says .subframe-says (littleAt 4 36 bs) .0 (g .subframe);
+    end = g .end;
+    records = words-forth (g .records);
+    fits = says .near-fits (g .end) (length bs) (g .total) (g .above) (g .padding);
+  }
 
--- a multiple of 32 less than 32 above e is the smallest not below e
-pub smallest-of : (e l : ℕ) → l % 32 ≡ 0 → e ≤ l → l - e < 32 → Smallest e l
-smallest-of e l a b c = record { multiple = a; above = b; least = λ m d f. omega arith }
+  -- the total length of a packet is legal: it follows from the rest
+  pub packet-total : (bs : List ℕ) → Packet W bs → P .total (length bs) ≡ true
+  packet-total bs g =
+      let r = words-back (g .records) in let k = littleAt 4 32 bs in
+      let e : g .end ≡ 40 + (g .end - 40) = omega (arith, records-least r) in
+      says .total-follows k (g .end - 40) (length bs) (g .at-least) (g .at-most) (rw e at (g .fits))
+      (records-fair P S bs (littleAt 4 28 bs) r) (omega (arith, records-least r)) (λ z. omega (arith, records-end r z))
 
--- the smallest multiple of 32 not below e is less than 32 above it
-pub smallest-near : (e l : ℕ) → Smallest e l → l - e < 32
-smallest-near e l s = go (decLe (e + 32) l)
-  where
-    go : Dec (e + 32 ≤ l) → l - e < 32
-    go (yes h) = absurd (omega (arith, s .multiple, s .least (l - 32) (omega (arith, s .multiple)) (omega arith)))
-    go (no h) = omega (arith, s .above)
+  packet-laid : (bs : List ℕ) → Packet W bs → Laid P bs
+  unfolding magic
+  packet-laid bs g = let n = says .fits-near (g .end) (length bs) (g .fits) in record {
+    starts = g .starts;
+    says = g .total;
+    total = packet-total bs g;
+    objects = says .objects-says (littleAt 4 28 bs) .1 (g .objects);
+    count = g .count;
+    subframe = says .subframe-says (littleAt 4 36 bs) .1 (g .subframe);
+    end = g .end;
+    records = words-back (g .records);
+    above = n .0;
+    padding = n .1;
+  }
 
--- -- The packet
-
-words-forth : {bs : List ℕ} {n k p e : ℕ} → Records mmWave bs n k p e → RecordsTo bs n k p e
-words-forth none = none·paper
-words-forth {bs = bs} {n = n} (more {p = p} l r) =
-    more·paper (legal-exactly n (littleAt 4 p bs) (littleAt 4 (p + 4) bs) .0 l) (words-forth r)
-
-words-back : {bs : List ℕ} {n k p e : ℕ} → RecordsTo bs n k p e → Records mmWave bs n k p e
-words-back none·paper = none
-words-back {bs = bs} {n = n} (more·paper {p = p} l r) = more (legal-exactly n (littleAt 4 p bs) (littleAt 4 (p + 4) bs) .1 l) (words-back r)
-
-laid-packet : (bs : List ℕ) → Laid mmWave bs → Packet bs
-unfolding mmWave magic
-laid-packet bs g = let b = total-bounds (length bs) (g .total) in record {
-  starts = g .starts;
-  total = g .says;
-  at-least = b .1;
-  at-most = b .2;
-  count = g .count;
-  end = g .end;
-  records = words-forth (g .records);
-  fits = smallest-of (g .end) (length bs) (b .0) (g .above) (ltb-true (length bs - g .end) 32 (g .padding));
-}
-
--- a multiple of 32 from 64 to 32,768 is a legal total length
-pub total-legal : (l : ℕ) → l % 32 ≡ 0 → 64 ≤ l → l ≤ 32768 → totalLegal l ≡ true
-unfolding totalLegal
-total-legal l a b c = rw (eq-eqb (l % 32) 0 a, le-leb 64 l b, le-leb l 32768 c)
-
-packet-laid : (bs : List ℕ) → Packet bs → Laid mmWave bs
-unfolding mmWave magic
-packet-laid bs g = record {
-  starts = g .starts;
-  says = g .total;
-  total = total-legal (length bs) (g .fits .multiple) (g .at-least) (g .at-most);
-  count = g .count;
-  end = g .end;
-  records = words-back (g .records);
-  above = g .fits .above;
-  padding = lt-ltb (length bs - g .end) 32 (smallest-near (g .end) (length bs) (g .fits));
-}
-
-kind-16 : mmWave .kind ≡ 16
-unfolding mmWave
-kind-16 = refl
-
--- bytes are a frame of the form exactly if they are a packet in the paper's words, and its kind is 16
-pub frame-exactly-if-packet : (v : ℕ) (bs : List ℕ) → Frame (packet mmWave) v bs ↔ ((v ≡ 16) × Packet bs)
-frame-exactly-if-packet v bs = let f = frame-exactly-if-laid mmWave mmWave-sound v bs in
-    (λ h. let g = f .0 h in (g .0 ∙ kind-16, laid-packet bs (g .1)), λ g. f .1 (g .0 ∙ sym kind-16, packet-laid bs (g .1)))
+  -- bytes are a frame of the form exactly if they are a packet in the papers' words, with its kind
+  pub frame-exactly-if-packet : (v : ℕ) (bs : List ℕ) → Frame (packet P) v bs ↔ ((v ≡ W .kind) × Packet W bs)
+  frame-exactly-if-packet v bs = let f = frame-exactly-if-laid P v bs in (
+    λ h. let g = f .0 h in (g .0 ∙ says .kind-is, laid-packet bs (g .1)),
+    λ g. f .1 (g .0 ∙ sym (says .kind-is), packet-laid bs (g .1)),
+  )

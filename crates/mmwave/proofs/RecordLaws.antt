@@ -1,39 +1,41 @@
 -- The laws by which the packet's code is proved, for any profile: one for each case of a definition.
-use mathlib.Core.Bool.{Bool, true, false, _&&_}
+use mathlib.Core.Bool.{Bool, true, false, _&&_, _||_}
 use mathlib.Core.Path.{_≡_, refl, sym, ap, _∙_}
 use mathlib.Core.List.{List}
-use Prim.Native.Nat.{ℕ, zero, suc, _+_, _-_, _*_, _<_, _≤_}
+use Prim.Native.Nat.{ℕ, zero, suc, _+_, _-_, _*_, _≤_}
 use native.Mathlib.Omega.{arith}
+use lib.Dec.{leb, ltb}
 use lib.ListN.{length}
+use borrow.Author.Tests.{leb-true}
 use Rattle.digits.specs.LittleEndian.{littleAt}
-use Rattle.digits.proofs.Choices.{and-right}
+use Rattle.digits.proofs.Choices.{and-left, and-right}
 use Rattle.form.specs.declared.Judgement.{Judgement}
-use Rattle.form.specs.declared.Judgement.the-variants.{Whole, Bad, Waiting}
-use Rattle.form.specs.Form.{Form, whole, _>>=_, _>>_, judge, judgeAt}
+use Rattle.form.specs.declared.Judgement.the-variants.{Whole}
+use Rattle.form.specs.Form.{whole, _>>=_, judge, judgeAt}
 use Rattle.form.specs.Pieces.{four, free}
-use Rattle.form.proofs.PieceLaws.{seq-inverse, four-inverse, free-inverse}
+use Rattle.form.proofs.PieceLaws.{seq-inverse, four-inverse, free-inverse, go-on, whole-there}
 use Rattle.mmwave.specs.declared.Rule.{Rule}
-use Rattle.mmwave.specs.Profile.{Profile, legal, typeOk, lengthOk, Sound}
+use Rattle.mmwave.specs.Profile.{Profile, legal, countOk, fits, possible, typeOk, lengthOk}
 use Rattle.mmwave.specs.Packet.{entry, last, records}
 
 -- -- The tests
 
 -- the test of a type, by its rule
-pub type-test : (P : Profile) (n k room type : ℕ) {rule : Rule} {b : Bool} → rule ≡ P .rule type n → b ≡ P .possible k room rule
+pub type-test : (P : Profile) (n k room type : ℕ) {rule : Rule} {b : Bool} → rule ≡ P .rule type n → b ≡ possible P k room rule
     → b ≡ typeOk P n k room type
 unfolding typeOk
-type-test P n k room type e h = h ∙ ap (P .possible k room) e
+type-test P n k room type e h = h ∙ ap (possible P k room) e
 
 -- a legal length is tested for its fit
-pub length-both : (P : Profile) (rule : Rule) (k room m : ℕ) {a b : Bool} → a ≡ legal rule m → a ≡ true → b ≡ P .fits k room m
+pub length-both : (P : Profile) (rule : Rule) (k room m : ℕ) {a b : Bool} → a ≡ legal rule m → a ≡ true → b ≡ fits P k room m
     → b ≡ lengthOk P rule k room m
 unfolding lengthOk
-length-both P rule k room m h t f = f ∙ ap (λ (x : Bool). x && P .fits k room m) (sym t ∙ h)
+length-both P rule k room m h t f = f ∙ ap (λ (x : Bool). x && fits P k room m) (sym t ∙ h)
 
 -- a length that is not legal
 pub length-not : (P : Profile) (rule : Rule) (k room m : ℕ) {a : Bool} → a ≡ legal rule m → a ≡ false → false ≡ lengthOk P rule k room m
 unfolding lengthOk
-length-not P rule k room m h t = ap (λ (x : Bool). x && P .fits k room m) (sym t ∙ h)
+length-not P rule k room m h t = ap (λ (x : Bool). x && fits P k room m) (sym t ∙ h)
 
 -- a length judged by the rule of its type
 pub length-by : (P : Profile) (n k room type at : ℕ) (bs : List ℕ) {rule : Rule} {r : Judgement} → rule ≡ P .rule type n
@@ -44,9 +46,22 @@ length-by P n k room type at bs e h = h ∙ ap (λ (rule : Rule). judgeAt (four 
 -- -- The records
 
 -- a record count that passed leaves room for the records' headers
-pub count-leaves : (P : Profile) → Sound P → (l at : ℕ) (bs : List ℕ) {k e : ℕ} {r : Judgement} → r ≡ judgeAt (four 22 (P .count l)) at bs
+pub count-room : (P : Profile) (l k : ℕ) → countOk P l k ≡ true → 40 + 8 * k ≤ l
+unfolding countOk
+count-room P l k h = let r = ltb 0 k || leb (l - 40) (P .padding) in
+    leb-true (40 + 8 * k) l (and-left (leb (40 + 8 * k) l) r (and-right (leb k 32) (leb (40 + 8 * k) l && r) h))
+
+-- the same where it was read
+pub count-leaves : (P : Profile) (l at : ℕ) (bs : List ℕ) {k e : ℕ} {r : Judgement} → r ≡ judgeAt (four 22 (countOk P l)) at bs
     → r ≡ Whole k e → 40 + 8 * k ≤ l
-count-leaves P S l at bs {k} {e} a b = S .count-room l k (four-inverse 22 (P .count l) at bs k e (sym a ∙ b) .2)
+count-leaves P l at bs {k} {e} a b = count-room P l k (four-inverse 22 (countOk P l) at bs k e (sym a ∙ b) .2)
+
+-- the padding is there: the packet ends behind it, with its kind
+pub last-whole : (P : Profile) (room at : ℕ) (bs : List ℕ) {v u e : ℕ} {r : Judgement} → v ≡ P .kind → r ≡ judgeAt (free room) at bs
+    → r ≡ Whole u e → Whole v e ≡ judgeAt (last P room) at bs
+unfolding last
+last-whole P room at bs {v} {u} {e} k a b =
+    ap (λ (v : ℕ). Whole v e) k ∙ whole-there (P .kind) e bs ∙ sym (go-on (free room) (λ _. whole (P .kind)) at bs a b)
 
 -- no record is left
 pub records-none : (P : Profile) (n k room at : ℕ) (bs : List ℕ) → k ≡ 0 → judgeAt (last P room) at bs ≡ judgeAt (records P n k room) at bs
@@ -106,13 +121,13 @@ entry-inverse P n k room at bs m e w = go (seq-inverse _ _ at bs m e w)
         second (g .0) (g .1) (f .0) (f .1) (f .2) (seq-inverse _ _ (g .1) bs m e (g .3))
 
 -- a payload length that passed lies in the room
-pub passed-fits : (P : Profile) → Sound P → (n : ℕ) (rule : Rule) (k room m : ℕ) → (k ≡ 0 → ⊥) → lengthOk P rule k room m ≡ true → m ≤ room
-unfolding lengthOk
-passed-fits P S n rule zero room m h a = absurd (h refl)
-passed-fits P S n rule (suc k) room m h a = S .length-reads n k room m .0 (and-right (legal rule m) (P .fits (suc k) room m) a) .0
+pub passed-fits : (P : Profile) (rule : Rule) (k room m : ℕ) → lengthOk P rule k room m ≡ true → m ≤ room
+unfolding lengthOk fits
+passed-fits P rule k room m a = let r = ltb 1 k || leb (room - m) (P .padding) in
+    leb-true m room (and-left (leb m room) r (and-right (legal rule m) (leb m room && r) a))
 
 -- a whole record's payload lies in the room
-pub entry-fits : (P : Profile) → Sound P → (n k room at : ℕ) (bs : List ℕ) (m e : ℕ) {r : Judgement} → (k ≡ 0 → ⊥)
-    → r ≡ judgeAt (entry P n k room) at bs → r ≡ Whole m e → m ≤ room
-entry-fits P S n k room at bs m e h a b =
-    passed-fits P S n (P .rule (littleAt 4 at bs) n) k room m h (entry-inverse P n k room at bs m e (sym a ∙ b) .length-passed)
+pub entry-fits : (P : Profile) (n k room at : ℕ) (bs : List ℕ) (m e : ℕ) {r : Judgement} → r ≡ judgeAt (entry P n k room) at bs
+    → r ≡ Whole m e → m ≤ room
+entry-fits P n k room at bs m e a b =
+    passed-fits P (P .rule (littleAt 4 at bs) n) k room m (entry-inverse P n k room at bs m e (sym a ∙ b) .length-passed)

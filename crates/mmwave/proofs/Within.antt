@@ -1,26 +1,33 @@
 -- The laws for a packet whose bytes are there, for any profile: it is judged by the numbers at their offsets.
-use mathlib.Core.Bool.{Bool, true, false}
-use mathlib.Core.Path.{_≡_, refl, sym, ap, _∙_}
+use mathlib.Core.Bool.{Bool, true, false, cond}
+use mathlib.Core.Path.{_≡_, refl, sym, ap, subst, _∙_}
 use mathlib.Core.List.{List, [], _∷_}
 use Prim.Native.Nat.{ℕ, zero, suc, _+_, _-_, _*_, _<_, _≤_}
+use native.Mathlib.Nat.{add-zero}
 use native.Mathlib.Omega.{arith}
 use lib.Dec.{eqb}
-use lib.ListN.{length, take, getD}
-use lib.Seq.{take-all}
+use lib.ListN.{length, take, drop, getD, length-drop}
 use borrow.Author.Tests.{eq-eqb, ne-eqb, eqb-true}
-use Rattle.digits.proofs.Choices.{test, both-ways}
+use Rattle.digits.proofs.Choices.{both-ways, cond-apply}
+use Rattle.digits.proofs.Lists.{part-drop}
 use Rattle.digits.specs.LittleEndian.{fromLittle, littleAt}
 use Rattle.form.specs.declared.Judgement.{Judgement}
 use Rattle.form.specs.declared.Judgement.the-variants.{Whole, Bad}
 use Rattle.form.specs.Form.{Form, whole, _>>=_, judge, judgeAt}
-use Rattle.form.specs.Pieces.{any, four, marker, free, frees}
-use Rattle.form.proofs.PieceLaws.{go-on, stop, whole-there, four-whole, four-bad, free-whole, frees-whole, marker-whole, marker-other}
+use Rattle.form.specs.Pieces.{free}
+use Rattle.form.proofs.PieceLaws.{go-on, stop, whole-there, four-bad, free-whole, marker-other, moved, judge-moved}
+use Rattle.form.proofs.FieldLaws.{field-on}
+use Rattle.mmwave.specs.declared.PacketDialect.{PacketDialect}
 use Rattle.mmwave.specs.declared.Rule.{Rule}
-use Rattle.mmwave.specs.declared.Rule.the-variants.{Exact}
-use Rattle.mmwave.specs.Profile.{Profile, typeOk, lengthOk}
-use Rattle.mmwave.specs.Packet.{magic, entry, last, records, counted, packet}
-use Rattle.mmwave.specs.Internal.{settled}
-use Rattle.mmwave.proofs.RecordLaws.{type-test, records-none, records-more}
+use Rattle.mmwave.specs.Profile.{Profile, countOk, typeOk, lengthOk}
+use Rattle.mmwave.specs.Packet.{magic, entry, last, records, packet}
+use Rattle.mmwave.specs.Document.{HoldsBefore, at-total, at-objects, at-count, at-subframe}
+use Rattle.mmwave.specs.Dialects.{profileOf}
+use Rattle.mmwave.specs.Internal.{settled, Settles}
+use Rattle.mmwave.proofs.RecordLaws.{records-none, records-more, passed-fits}
+use Rattle.mmwave.proofs.RuleLaws.{length-type}
+use Rattle.mmwave.proofs.Document.{entry-whole, holds-magic, holds-total, holds-objects, holds-count, holds-subframe, header-on}
+use Rattle.mmwave.proofs.Refusals.{bad-exactly}
 
 -- -- The records
 
@@ -36,88 +43,116 @@ settled-none P n k room at bs e h = padding (omega arith) ∙ records-none P n k
         ∙ sym (go-on (free room) (λ _. whole (P .kind)) at bs (free-whole room at bs (omega arith)) refl)
 
 -- no reason: the packet is whole
-pub settled-whole : (P : Profile) (r end l : ℕ) {j : Judgement} → settled P r end ≡ j → r ≡ 0 → end ≡ l → Whole (P .kind) l ≡ j
+pub settled-whole : (P : Profile) (r end l : ℕ) {v : ℕ} {j : Judgement} → v ≡ P .kind → settled P r end ≡ j → r ≡ 0 → end ≡ l
+    → Whole v l ≡ j
 unfolding settled
-settled-whole P r end l e h f = rw (h, f) at e
+settled-whole P r end l k e h f = ap (λ (v : ℕ). Whole v l) k ∙ (rw (h, f) at e)
 
 -- a reason: the packet is bad
 pub settled-bad : (P : Profile) (r end : ℕ) {j : Judgement} → settled P r end ≡ j → (r ≡ 0 → ⊥) → Bad r ≡ j
 unfolding settled
 settled-bad P r end e h = rw (ne-eqb r 0 h) at e
 
--- what the code has read of a record: its type with the rule and the test of that, its payload length with its test
-module _ (P : Profile) (n k room at : ℕ) (bs : List ℕ) (some : k ≡ 0 → ⊥) {type : ℕ} {rule : Rule} {t : Bool}
-    (type-is : type ≡ littleAt 4 at bs) (rule-is : rule ≡ P .rule type n)
-    (t-is : t ≡ P .possible k room rule) where
-  first : Form → Judgement
-  first p = judgeAt p at bs
+-- what is settled of the bytes behind an offset is settled there
+settled-moved : (P : Profile) (p : Form) (r e d : ℕ) (xs : List ℕ) → settled P r e ≡ judge p 0 xs → settled P r (d + e) ≡ judge p d xs
+unfolding settled
+settled-moved P p r e d xs h =
+    sym (cond-apply (moved d) (eqb r 0) (Whole (P .kind) e) (Bad r)) ∙ ap (moved d) h ∙ sym (judge-moved p d 0 xs)
+    ∙ ap (λ (i : ℕ). judge p i xs) (add-zero d)
 
-  type-says : (v : Bool) → t ≡ v → typeOk P n k room (littleAt 4 at bs) ≡ v
-  type-says v e = ap (typeOk P n k room) (sym type-is) ∙ sym (type-test P n k room type rule-is t-is) ∙ e
+-- the walk over the part behind an offset settles the records there
+settled-part : (P : Profile) (p : Form) (r e d : ℕ) (bs : List ℕ) → settled P r e ≡ judgeAt p 0 (take (length bs - d) (drop d bs))
+    → settled P r (d + e) ≡ judgeAt p d bs
+settled-part P p r e d bs h = settled-moved P p r e d (drop d bs) (h ∙ ap (judge p 0) (part-drop bs d))
 
-  -- the type does not pass
-  pub settled-type : (end : ℕ) → at + 4 ≤ length bs → t ≡ false → settled P 23 end ≡ judgeAt (records P n k room) at bs
-  unfolding settled entry first
-  settled-type end h e =
-      stop _ _ at bs (stop _ _ at bs (four-bad 23 (typeOk P n k room) at bs h (type-says false e)))
-      ∙ sym (ap first (records-more P n k room some))
+-- what settles records in the part behind an offset settles them there
+pub settles-part : (P : Profile) (n k room r d : ℕ) (bs : List ℕ) → Settles P n k room (take (length bs - d) (drop d bs)) r
+    → settled P r (d + 8 * k + room) ≡ judgeAt (records P n k room) d bs
+settles-part P n k room r d bs h = ap (settled P r) (omega arith) ∙ settled-part P (records P n k room) r (8 * k + room) d bs h
 
-  module _ {m : ℕ} {l : Bool} (m-is : m ≡ littleAt 4 (at + 4) bs) (l-is : l ≡ lengthOk P rule k room m) (passes : t ≡ true) where
-    behind-type : at + 4 ≤ length bs
-        → judgeAt (entry P n k room) at bs ≡ judgeAt (four 24 (lengthOk P rule k room) >>= (λ m. free m >>= (λ _. whole m))) (at + 4) bs
-    unfolding entry
-    behind-type h = go-on _ _ at bs (four-whole 23 (typeOk P n k room) at bs h (type-says true passes)) refl
-        ∙ ap (λ (rule : Rule). judgeAt (four 24 (lengthOk P rule k room) >>= (λ m. free m >>= (λ _. whole m))) (at + 4) bs)
-        (sym (rule-is ∙ ap (λ (i : ℕ). P .rule i n) type-is))
+-- the same of one dialect is the same of an equal one
+pub settles-as : {d e : PacketDialect} (n k room : ℕ) (bs : List ℕ) (r : ℕ) → d ≡ e → Settles (profileOf d) n k room bs r
+    → Settles (profileOf e) n k room bs r
+settles-as n k room bs r h = subst (λ (d : PacketDialect). Settles (profileOf d) n k room bs r) h
 
-    length-says : (v : Bool) → l ≡ v → lengthOk P rule k room (littleAt 4 (at + 4) bs) ≡ v
-    length-says v e = ap (lengthOk P rule k room) (sym m-is) ∙ sym l-is ∙ e
+-- what the code has read of the first record: its type with its rule, and its payload length with its test
+pub record FirstRead (P : Profile) (n k room : ℕ) (bs : List ℕ) (type : ℕ) (rule : Rule) (m : ℕ) (l : Bool) : Type 0 where
+  pub some : k ≡ 0 → ⊥
+  pub type-is : type ≡ littleAt 4 0 bs
+  pub rule-is : rule ≡ P .rule type n
+  pub length-is : m ≡ littleAt 4 4 bs
+  pub test-is : l ≡ lengthOk P rule k room m
 
-    -- the payload length does not pass
-    pub settled-length : (end : ℕ) → at + 8 ≤ length bs → l ≡ false → settled P 24 end ≡ judgeAt (records P n k room) at bs
-    unfolding settled first
-    settled-length end h e =
-        stop _ _ at bs (stop _ _ (at + 4) bs (four-bad 24 (lengthOk P rule k room) (at + 4) bs (omega arith) (length-says false e))
-        ∙ sym (behind-type (omega arith)))
-        ∙ sym (ap first (records-more P n k room some))
+module _ (P : Profile) {n k room : ℕ} {bs : List ℕ} {type : ℕ} {rule : Rule} {m : ℕ} {l : Bool}
+    (first : FirstRead P n k room bs type rule m l) where
+  abbrev R : Rule
+  R = P .rule (littleAt 4 0 bs) n
 
-    whole-entry : at + 8 + m ≤ length bs → l ≡ true → Whole m (at + 8 + m) ≡ judgeAt (entry P n k room) at bs
-    whole-entry h e =
-        ap (Whole m) (omega arith) ∙ whole-there m (at + 4 + 4 + m) bs
-        ∙ sym (go-on (free m) (λ _. whole m) (at + 4 + 4) bs (free-whole m (at + 4 + 4) bs (omega arith)) refl)
-        ∙ sym (go-on (four 24 (lengthOk P rule k room)) (λ m. free m >>= (λ _. whole m)) (at + 4) bs read refl)
-        ∙ sym (behind-type (omega arith))
+  length-says : (v : Bool) → l ≡ v → lengthOk P R k room (littleAt 4 4 bs) ≡ v
+  length-says v e =
+      ap (λ (rule : Rule). lengthOk P rule k room (littleAt 4 4 bs)) (sym (first .rule-is ∙ ap (λ (i : ℕ). P .rule i n) (first .type-is)))
+      ∙ ap (lengthOk P rule k room) (sym (first .length-is)) ∙ sym (first .test-is) ∙ e
+
+  -- the length does not pass: the type is refused, or else the length
+  pub settled-refused : {r : ℕ} → l ≡ false → r ≡ cond (typeOk P n k room type) 24 23 → 8 ≤ length bs → Settles P n k room bs r
+  unfolding settled entry
+  settled-refused {r} e r-is h =
+      go (typeOk P n k room type) (ap (typeOk P n k room) (sym (first .type-is))) r-is
+      ∙ ap (λ (p : Form). judgeAt p 0 bs) (sym (records-more P n k room (first .some)))
+    where
+      go : (t : Bool) → typeOk P n k room (littleAt 4 0 bs) ≡ t → r ≡ cond t 24 23
+          → cond (eqb r 0) (Whole (P .kind) (8 * k + room)) (Bad r) ≡ judgeAt (entry P n k room >>= (λ m. records P n (k - 1) (room - m)))
+          0 bs
+      go true a f = rw f (stop _ _ 0 bs (stop _ _ 4 bs (four-bad 24 (lengthOk P R k room) 4 bs h (length-says false e))
+          ∙ sym (field-on 23 (typeOk P n k room) _ 0 bs (omega arith, a))))
+      go false a f = rw f (stop _ _ 0 bs (stop _ _ 0 bs (four-bad 23 (typeOk P n k room) 0 bs (omega arith) a)))
+
+  module _ (passes : l ≡ true) (there : 8 * k + room ≤ length bs) where
+    -- the payload lies in the room
+    pub length-within : m ≤ room
+    length-within = rw (first .length-is) (passed-fits P R k room (littleAt 4 4 bs) (length-says true passes))
+
+    -- the record lies in the bytes
+    pub record-within : 8 + m ≤ length bs
+    record-within = go k (first .some) length-within there
       where
-        read : Whole m (at + 4 + 4) ≡ judgeAt (four 24 (lengthOk P rule k room)) (at + 4) bs
-        read = ap (λ (m : ℕ). Whole m (at + 4 + 4)) m-is
-            ∙ four-whole 24 (lengthOk P rule k room) (at + 4) bs (omega arith) (length-says true e)
+        go : (k : ℕ) → (k ≡ 0 → ⊥) → m ≤ room → 8 * k + room ≤ length bs → 8 + m ≤ length bs
+        go zero s f h = absurd (s refl)
+        go (suc k) s f h = omega arith
 
-    -- both pass: the remaining records are judged behind this one
-    pub record-passed : at + 8 + m ≤ length bs → l ≡ true
-        → judgeAt (records P n (k - 1) (room - m)) (at + 8 + m) bs ≡ judgeAt (records P n k room) at bs
-    unfolding first
-    record-passed h e = sym (ap first (records-more P n k room some) ∙ go-on _ _ at bs (whole-entry h e) refl)
+    -- the length passes, and with it the type: the remaining records are judged behind this one
+    record-passed : judgeAt (records P n (k - 1) (room - m)) (8 + m) bs ≡ judgeAt (records P n k room) 0 bs
+    unfolding typeOk
+    record-passed = rw (first .length-is) (
+        let type-passes = length-type P R k room (littleAt 4 4 bs) (first .some) (length-says true passes) in
+        let within = rw (first .length-is) at record-within in
+        let whole-record = entry-whole P n k room 0 bs within type-passes (length-says true passes) in
+        sym (ap (λ (p : Form). judgeAt p 0 bs) (records-more P n k room (first .some))
+        ∙ go-on (entry P n k room) (λ m. records P n (k - 1) (room - m)) 0 bs (sym whole-record) refl))
 
-    -- so their judgement is this one's
-    pub settled-more : (r : ℕ) → m ≤ room → at + 8 * k + room ≤ length bs → l ≡ true
-        → settled P r (at + 8 + m + 8 * (k - 1) + (room - m)) ≡ judgeAt (records P n (k - 1) (room - m)) (at + 8 + m) bs
-        → settled P r (at + 8 * k + room) ≡ judgeAt (records P n k room) at bs
-    settled-more r f h e j = ap (settled P r) same ∙ j ∙ record-passed (omega (arith, positive)) e
+    -- so what is settled of them is settled of all
+    pub settled-more : (r : ℕ) → Settles P n (k - 1) (room - m) (take (length bs - (8 + m)) (drop (8 + m) bs)) r → Settles P n k room bs r
+    settled-more r j =
+        ap (settled P r) (same k (first .some) length-within)
+        ∙ settled-part P (records P n (k - 1) (room - m)) r (8 * (k - 1) + (room - m)) (8 + m) bs j ∙ record-passed
       where
-        positive : 0 < k
-        positive = nonzero k some
-          where
-            nonzero : (k : ℕ) → (k ≡ 0 → ⊥) → 0 < k
-            nonzero zero n = absurd (n refl)
-            nonzero (suc k) n = omega arith
+        same : (k : ℕ) → (k ≡ 0 → ⊥) → m ≤ room → 8 * k + room ≡ 8 + m + (8 * (k - 1) + (room - m))
+        same zero s f = absurd (s refl)
+        same (suc k) s f = omega arith
 
-        same : at + 8 * k + room ≡ at + 8 + m + 8 * (k - 1) + (room - m)
-        same = omega (arith, positive)
+    -- the remaining records lie in the part behind it
+    pub rest-within : 8 * (k - 1) + (room - m) ≤ length (take (length bs - (8 + m)) (drop (8 + m) bs))
+    rest-within = rw (part-drop bs (8 + m), length-drop (8 + m) bs) (go k (first .some) length-within there)
+      where
+        go : (k : ℕ) → (k ≡ 0 → ⊥) → m ≤ room → 8 * k + room ≤ length bs → 8 * (k - 1) + (room - m) ≤ length bs - (8 + m)
+        go zero s f h = absurd (s refl)
+        go (suc k) s f h = omega arith
 
--- the part of the bytes that is all of them
-pub all-of : (P : Profile) (n k room at : ℕ) (bs : List ℕ) {j : Judgement} → j ≡ judgeAt (records P n k room) at (take (length bs - 0) bs)
-    → j ≡ judgeAt (records P n k room) at bs
-all-of P n k room at bs e = e ∙ ap (λ (l : List ℕ). judgeAt (records P n k room) at l) (take-all (length bs - 0) bs (omega arith))
+    -- the last record: only padding is left
+    pub settled-last : k ≡ 1 → Settles P n k room bs 0
+    settled-last one =
+        ap (settled P 0) (omega (arith, length-within))
+        ∙ settled-none P n (k - 1) (room - m) (8 + m) bs (omega arith) (omega (arith, length-within)) ∙ record-passed
 
 -- -- The header
 
@@ -127,51 +162,55 @@ module _ (P : Profile) (bs : List ℕ) (there : 40 ≤ length bs) where
   unfolding packet magic
   no-magic n = stop _ _ 0 bs (marker-other 20 magic 0 bs (omega arith) n)
 
-  behind-magic : take 8 bs ≡ magic → judge (packet P) 0 bs ≡ judgeAt (four 21 (P .total) >>= counted P) 12 bs
-  unfolding packet magic
-  behind-magic e =
-      go-on (marker 20 magic) _ 0 bs (marker-whole 20 magic 0 bs e) refl ∙ go-on (frees 1) _ 8 bs (frees-whole 1 8 bs (omega arith)) refl
-
+  -- what the code has read of the header: each field with its test, and those before it passed
   module _ (met : take 8 bs ≡ magic) {l : ℕ} {t : Bool} (l-is : l ≡ littleAt 4 12 bs) (t-is : t ≡ P .total l) where
     total-says : (v : Bool) → t ≡ v → P .total (littleAt 4 12 bs) ≡ v
     total-says v e = ap (P .total) (sym l-is) ∙ sym t-is ∙ e
 
     -- the total length does not pass
     pub header-total : t ≡ false → Bad 21 ≡ judge (packet P) 0 bs
-    header-total e =
-        stop (four 21 (P .total)) (counted P) 12 bs (four-bad 21 (P .total) 12 bs (omega arith) (total-says false e))
-        ∙ sym (behind-magic met)
+    header-total e = sym (bad-exactly P bs 21 .1 (at-total (holds-magic met) (omega arith) (total-says false e)))
 
-    module _ (passes : t ≡ true) {k : ℕ} {c : Bool} (k-is : k ≡ littleAt 4 32 bs) (c-is : c ≡ P .count l k) where
-      behind-total : judge (packet P) 0 bs ≡ judgeAt (counted P l) 16 bs
-      behind-total =
-          behind-magic met ∙ go-on (four 21 (P .total)) (counted P) 12 bs
-          (four-whole 21 (P .total) 12 bs (omega arith) (total-says true passes)) refl
-          ∙ ap (λ (l : ℕ). judgeAt (counted P l) 16 bs) (sym l-is)
+    module _ (t-passes : t ≡ true) {n : ℕ} {o : Bool} (n-is : n ≡ littleAt 4 28 bs) (o-is : o ≡ P .objects n) where
+      before-objects : HoldsBefore P bs 28
+      before-objects = holds-total (holds-magic met) (total-says true t-passes)
 
-      count-says : (v : Bool) → c ≡ v → P .count l (littleAt 4 32 bs) ≡ v
-      count-says v e = ap (P .count l) (sym k-is) ∙ sym c-is ∙ e
+      objects-say : (v : Bool) → o ≡ v → P .objects (littleAt 4 28 bs) ≡ v
+      objects-say v e = ap (P .objects) (sym n-is) ∙ sym o-is ∙ e
 
-      objects-read : Whole (littleAt 4 28 bs) 32 ≡ judgeAt (four 0 any) 28 bs
-      objects-read = four-whole 0 any 28 bs (omega arith) refl
+      -- the object count does not pass
+      pub header-objects : o ≡ false → Bad 26 ≡ judge (packet P) 0 bs
+      header-objects e = sym (bad-exactly P bs 26 .1 (at-objects before-objects (omega arith) (objects-say false e)))
 
-      -- the record count does not pass
-      pub header-count : c ≡ false → Bad 22 ≡ judge (packet P) 0 bs
-      unfolding counted
-      header-count e = stop (four 22 (P .count l)) _ 32 bs (four-bad 22 (P .count l) 32 bs (omega arith) (count-says false e))
-          ∙ sym (behind-total ∙ go-on (frees 3) _ 16 bs (frees-whole 3 16 bs (omega arith)) refl
-          ∙ go-on (four 0 any) _ 28 bs objects-read refl)
+      module _ (o-passes : o ≡ true) {k : ℕ} {c : Bool} (k-is : k ≡ littleAt 4 32 bs) (c-is : c ≡ countOk P l k) where
+        before-count : HoldsBefore P bs 32
+        before-count = holds-objects before-objects (objects-say true o-passes)
 
-      -- both pass: the records are judged behind the header
-      pub header-passed : {n : ℕ} → n ≡ littleAt 4 28 bs → c ≡ true
-          → judgeAt (records P n k (l - (40 + 8 * k))) 40 bs ≡ judge (packet P) 0 bs
-      unfolding counted
-      header-passed n-is e = ap (λ (n : ℕ). judgeAt (records P n k (l - (40 + 8 * k))) 40 bs) n-is
-          ∙ ap (λ (k : ℕ). judgeAt (records P (littleAt 4 28 bs) k (l - (40 + 8 * k))) 40 bs) k-is
-          ∙ sym (behind-total ∙ go-on (frees 3) _ 16 bs (frees-whole 3 16 bs (omega arith)) refl
-          ∙ go-on (four 0 any) _ 28 bs objects-read refl
-          ∙ go-on (four 22 (P .count l)) _ 32 bs (four-whole 22 (P .count l) 32 bs (omega arith) (count-says true e)) refl
-          ∙ go-on (frees 1) _ 36 bs (frees-whole 1 36 bs (omega arith)) refl)
+        count-says : (v : Bool) → c ≡ v → countOk P (littleAt 4 12 bs) (littleAt 4 32 bs) ≡ v
+        count-says v e = ap (λ (i : ℕ). countOk P i (littleAt 4 32 bs)) (sym l-is) ∙ ap (countOk P l) (sym k-is) ∙ sym c-is ∙ e
+
+        -- the record count does not pass
+        pub header-count : c ≡ false → Bad 22 ≡ judge (packet P) 0 bs
+        header-count e = sym (bad-exactly P bs 22 .1 (at-count before-count (omega arith) (count-says false e)))
+
+        module _ (c-passes : c ≡ true) {f : ℕ} {z : Bool} (f-is : f ≡ littleAt 4 36 bs) (z-is : z ≡ P .subframe f) where
+          before-subframe : HoldsBefore P bs 36
+          before-subframe = holds-count before-count (count-says true c-passes)
+
+          subframe-says : (v : Bool) → z ≡ v → P .subframe (littleAt 4 36 bs) ≡ v
+          subframe-says v e = ap (P .subframe) (sym f-is) ∙ sym z-is ∙ e
+
+          -- the subframe does not pass
+          pub header-subframe : z ≡ false → Bad 26 ≡ judge (packet P) 0 bs
+          header-subframe e = sym (bad-exactly P bs 26 .1 (at-subframe before-subframe there (subframe-says false e)))
+
+          -- all pass: the records are judged behind the header
+          pub header-passed : z ≡ true → judgeAt (records P n k (l - (40 + 8 * k))) 40 bs ≡ judge (packet P) 0 bs
+          header-passed e =
+              ap (λ (l : ℕ). judgeAt (records P n k (l - (40 + 8 * k))) 40 bs) l-is
+              ∙ ap (λ (n : ℕ). judgeAt (records P n k (littleAt 4 12 bs - (40 + 8 * k))) 40 bs) n-is
+              ∙ ap (λ (k : ℕ). judgeAt (records P (littleAt 4 28 bs) k (littleAt 4 12 bs - (40 + 8 * k))) 40 bs) k-is
+              ∙ sym (header-on P bs (holds-subframe before-subframe (subframe-says true e)) there)
 
 -- -- The magic
 
@@ -215,16 +254,3 @@ module _ (a b c d w x y z : ℕ) {p q : ℕ} (p-is : p ≡ fromLittle (a ∷ b �
     where
       numbers : fromLittle (a ∷ b ∷ c ∷ d ∷ []) ≡ fromLittle (w ∷ x ∷ y ∷ z ∷ [])
       numbers = rw (s .0, s .1, s .2, s .3)
-
--- -- The length of an exact rule
-
--- the one length of a rule that passed fits
-pub exact-length : (P : Profile) (k room n m : ℕ) → P .fits k room n ≡ true → eqb m n ≡ lengthOk P (Exact n) k room m
-unfolding lengthOk
-exact-length P k room n m f = test (eqb m n) same other
-  where
-    same : eqb m n ≡ true → eqb m n ≡ lengthOk P (Exact n) k room m
-    same e = let x = eqb-true m n e in rw (e, x, f)
-
-    other : eqb m n ≡ false → eqb m n ≡ lengthOk P (Exact n) k room m
-    other e = rw e

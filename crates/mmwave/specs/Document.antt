@@ -1,4 +1,4 @@
--- A packet by its offsets, for any profile: what stands between the form and the paper's own sentences
+-- A packet by its offsets, for any profile: what stands between the form and the papers' own sentences
 -- (`frame-exactly-if-laid`, `bad-exactly`, `inside-exactly`).
 use mathlib.Core.Bool.{true, false}
 use mathlib.Core.Path.{_≡_}
@@ -7,7 +7,7 @@ use Prim.Native.Nat.{ℕ, suc, _+_, _-_, _*_, _<_, _≤_}
 use lib.ListN.{length, take}
 use Rattle.digits.specs.LittleEndian.{littleAt}
 use Rattle.form.specs.Pieces.{Broken, Cut}
-use Rattle.mmwave.specs.Profile.{Profile, legal, typeOk, lengthOk}
+use Rattle.mmwave.specs.Profile.{Profile, legal, countOk, typeOk, lengthOk}
 use Rattle.mmwave.specs.Packet.{magic}
 
 -- k records stand right behind one another from offset p to e, each of a payload length that is legal for its type
@@ -21,24 +21,28 @@ pub record Laid (P : Profile) (bs : List ℕ) : Type 0 where
   pub starts : take 8 bs ≡ magic
   pub says : littleAt 4 12 bs ≡ length bs
   pub total : P .total (length bs) ≡ true
+  pub objects : P .objects (littleAt 4 28 bs) ≡ true
   pub count : littleAt 4 32 bs ≤ 32
+  pub subframe : P .subframe (littleAt 4 36 bs) ≡ true
   pub end : ℕ
   pub records : Records P bs (littleAt 4 28 bs) (littleAt 4 32 bs) 40 end
   pub above : end ≤ length bs
-  pub padding : P .padding (length bs - end) ≡ true
+  pub padding : length bs - end ≤ P .padding
 
 -- -- How far the checks have come
 
--- the header is there and its checks hold
-pub record HeaderHolds (P : Profile) (bs : List ℕ) : Type 0 where
+-- the magic holds, and so does the test of each header field before the offset
+pub record HoldsBefore (P : Profile) (bs : List ℕ) (at : ℕ) : Type 0 where
   pub starts : take 8 bs ≡ magic
-  pub total : P .total (littleAt 4 12 bs) ≡ true
-  pub count : P .count (littleAt 4 12 bs) (littleAt 4 32 bs) ≡ true
-  pub within : 40 ≤ length bs
+  pub total : 12 < at → P .total (littleAt 4 12 bs) ≡ true
+  pub objects : 28 < at → P .objects (littleAt 4 28 bs) ≡ true
+  pub count : 32 < at → countOk P (littleAt 4 12 bs) (littleAt 4 32 bs) ≡ true
+  pub subframe : 36 < at → P .subframe (littleAt 4 36 bs) ≡ true
 
 -- every check before offset p holds, the records before it are there, and k records with this room are left
 pub data Reached (P : Profile) (bs : List ℕ) : ℕ → ℕ → ℕ → Type 0 where
-  first : HeaderHolds P bs → Reached P bs (littleAt 4 32 bs) 40 (littleAt 4 12 bs - (40 + 8 * littleAt 4 32 bs))
+  first : HoldsBefore P bs 40 → 40 ≤ length bs
+      → Reached P bs (littleAt 4 32 bs) 40 (littleAt 4 12 bs - (40 + 8 * littleAt 4 32 bs))
   next : {k p room : ℕ} → Reached P bs (suc k) p room → typeOk P (littleAt 4 28 bs) (suc k) room (littleAt 4 p bs) ≡ true
       → lengthOk P (P .rule (littleAt 4 p bs) (littleAt 4 28 bs)) (suc k) room (littleAt 4 (p + 4) bs) ≡ true
       → p + 8 + littleAt 4 (p + 4) bs ≤ length bs
@@ -47,26 +51,20 @@ pub data Reached (P : Profile) (bs : List ℕ) : ℕ → ℕ → ℕ → Type 0 
 -- a check that is due fails and every check before it holds: the first that fails gives the reason (paper 01, "Judging a place")
 pub data Refused (P : Profile) (bs : List ℕ) : ℕ → Type 0 where
   at-magic : Broken magic bs → Refused P bs 20
-  at-total : take 8 bs ≡ magic → 16 ≤ length bs → P .total (littleAt 4 12 bs) ≡ false → Refused P bs 21
-  at-count : take 8 bs ≡ magic → P .total (littleAt 4 12 bs) ≡ true → 36 ≤ length bs
-      → P .count (littleAt 4 12 bs) (littleAt 4 32 bs) ≡ false → Refused P bs 22
+  at-total : HoldsBefore P bs 12 → 16 ≤ length bs → P .total (littleAt 4 12 bs) ≡ false → Refused P bs 21
+  at-objects : HoldsBefore P bs 28 → 32 ≤ length bs → P .objects (littleAt 4 28 bs) ≡ false → Refused P bs 26
+  at-count : HoldsBefore P bs 32 → 36 ≤ length bs → countOk P (littleAt 4 12 bs) (littleAt 4 32 bs) ≡ false → Refused P bs 22
+  at-subframe : HoldsBefore P bs 36 → 40 ≤ length bs → P .subframe (littleAt 4 36 bs) ≡ false → Refused P bs 26
   at-type : {k p room : ℕ} → Reached P bs (suc k) p room → p + 4 ≤ length bs
       → typeOk P (littleAt 4 28 bs) (suc k) room (littleAt 4 p bs) ≡ false → Refused P bs 23
   at-length : {k p room : ℕ} → Reached P bs (suc k) p room → p + 8 ≤ length bs
       → typeOk P (littleAt 4 28 bs) (suc k) room (littleAt 4 p bs) ≡ true
       → lengthOk P (P .rule (littleAt 4 p bs) (littleAt 4 28 bs)) (suc k) room (littleAt 4 (p + 4) bs) ≡ false → Refused P bs 24
 
--- the bytes end inside a four-byte field, by the profile's tests; the paper's own words are `EndsInField`.
--- The fields by their offsets: version, total length; platform, frame number and time; object count, record count; subframe;
--- those of the record at p
+-- the bytes end inside a four-byte field, by the profile's tests; the papers' own words are `EndsInField`.
+-- The fields are the eight of the header behind the magic, at 8, 12, .. 36, and those of the record at p
 pub data EndsInside (P : Profile) (bs : List ℕ) : Type 0 where
-  in-version : take 8 bs ≡ magic → Cut 8 bs → EndsInside P bs
-  in-total : take 8 bs ≡ magic → Cut 12 bs → EndsInside P bs
-  in-free : (i : ℕ) → i < 3 → take 8 bs ≡ magic → P .total (littleAt 4 12 bs) ≡ true → Cut (16 + 4 * i) bs → EndsInside P bs
-  in-objects : take 8 bs ≡ magic → P .total (littleAt 4 12 bs) ≡ true → Cut 28 bs → EndsInside P bs
-  in-count : take 8 bs ≡ magic → P .total (littleAt 4 12 bs) ≡ true → Cut 32 bs → EndsInside P bs
-  in-subframe : take 8 bs ≡ magic → P .total (littleAt 4 12 bs) ≡ true → P .count (littleAt 4 12 bs) (littleAt 4 32 bs) ≡ true → Cut 36 bs
-      → EndsInside P bs
+  in-header : (i : ℕ) → i < 8 → HoldsBefore P bs (8 + 4 * i) → Cut (8 + 4 * i) bs → EndsInside P bs
   in-type : {k p room : ℕ} → Reached P bs (suc k) p room → Cut p bs → EndsInside P bs
   in-length : {k p room : ℕ} → Reached P bs (suc k) p room → typeOk P (littleAt 4 28 bs) (suc k) room (littleAt 4 p bs) ≡ true
       → Cut (p + 4) bs → EndsInside P bs

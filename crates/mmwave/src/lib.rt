@@ -1,4 +1,12 @@
-// The mmWave packet (paper 01, "mmWave"; document 004): its types, definitions and laws.
+// Packets (paper 01, "mmWave", document 004; paper 02, (i), document 002): their types, definitions and laws.
+
+// The packet dialects.
+pub enum PacketDialect {
+    // the mmWave demo's chips (paper 01, "mmWave")
+    MmWave,
+    // the vital-signs chips (paper 02, (i))
+    VitalSigns,
+}
 
 // The packet header's fields; its offsets and its size are the type's constants.
 #[repr(C)]
@@ -39,10 +47,15 @@ pub enum Rule {
     Never,
     // this one
     Exact(u64),
-    // the multiples of 2
-    Even,
-    // the multiples of 4
-    Fours,
+    // the multiples of a unit
+    Multiple(Unit),
     // any
     Free,
+}
+
+// What lengths are multiples of.
+pub enum Unit {
+    Two,
+    Four,
+    Sixteen,
 }

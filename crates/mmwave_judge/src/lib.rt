@@ -1,31 +1,36 @@
-// The judgement of a packet, and its quick way: where the bytes are all there, no field tests their length (paper 01, "mmWave").
+// The judgement of a packet, and its quick way: where the bytes are all there, no field tests their length
+// (paper 01, "mmWave"; paper 02, (i)).
 ghost use mathlib.Core.Path.{_≡_};
-ghost use mathlib.Core.Bool.{true, false};
+ghost use mathlib.Core.Bool.{true, false, cond};
 ghost use Prim.Native.Nat.{_+_, _-_, _*_, _≤_, _<_};
 ghost use lib.ListN.{length, take};
 ghost use Rattle.digits.specs.LittleEndian.{littleAt};
 ghost use Rattle.form.specs.Form.{judge as Form·judge, judgeAt};
 ghost use Rattle.form.specs.Numbers.{Judges};
-ghost use Rattle.mmwave.specs.Profile.{lengthOk};
+ghost use Rattle.mmwave.specs.Profile.{typeOk};
 ghost use Rattle.mmwave.specs.Packet.{magic, records, packet};
-ghost use Rattle.mmwave.specs.Internal.{settled};
-ghost use Rattle.mmwave.specs.MmWave.{mmWave};
+ghost use Rattle.mmwave.specs.Dialects.{profileOf};
+ghost use Rattle.mmwave.specs.Internal.{settled, Settles, dialectOfKind};
 use form::Judgement;
 use mmwave::Header;
-use mmwave::Rule;
+use mmwave::PacketDialect;
 use mmwave_pieces::BAD_COUNT;
+use mmwave_pieces::BAD_FIXED;
 use mmwave_pieces::BAD_LENGTH;
 use mmwave_pieces::BAD_TOTAL;
 use mmwave_pieces::BAD_TYPE;
-use mmwave_pieces::KIND;
 use mmwave_pieces::NO_MAGIC;
 use mmwave_pieces::judge_pieces;
 use mmwave_pieces::walk;
+use mmwave_rules::KIND;
 use mmwave_rules::count_ok;
+use mmwave_rules::kind_of;
 use mmwave_rules::length_ok;
+use mmwave_rules::objects_ok;
 use mmwave_rules::rule_of;
-use mmwave_rules::some_length_fits;
+use mmwave_rules::subframe_ok;
 use mmwave_rules::total_ok;
+use mmwave_rules::type_ok;
 
 // The number in four bytes that are there.
 fn field(s: &[u8], at: usize) -> u32
@@ -53,97 +58,108 @@ fn has_magic(s: &[u8]) -> bool
     false
 }
 
-// The length test behind a type that passed: the one length of an exact rule fits.
-fn length_passes(rule: Rule, k: u32, room: u64, m: u32) -> bool
-    requires { ⌜ mmWave .possible k room rule ≡ true ⌝ }
-    ensures { λ r. ⌜ r ≡ lengthOk mmWave rule k room m ⌝ }
+// The dialect with this kind, 16 or else 17. The walk carries the kind: a number is handed on in a register as it is, an enum is widened
+// at each call.
+fn dialect_of_kind(kind: u32) -> PacketDialect
+    ensures { λ r. ⌜ r ≡ dialectOfKind kind ⌝ }
 {
-    match rule {
-        Rule::Exact(n) => m as u64 == n,
-        _ => length_ok(rule, k, room, m),
+    if kind == KIND {
+        return PacketDialect::MmWave;
     }
+    PacketDialect::VitalSigns
 }
 
-// The `k` records from `at` on, all of them there with their room: the reason of the first check that fails, or 0.
-fn walk_inside(s: &[u8], at: usize, objects: u32, k: u32, room: u64) -> u32
-    requires { ⌜ (0 < k) × (at + 8 * k + room ≤ length (now s)) ⌝ }
-    ensures { λ r. ⌜ settled mmWave r (at + 8 * k + room) ≡ judgeAt (records mmWave objects k room) at (now (s .entry)) ⌝ }
+// The reason of a record whose payload length does not pass: its type's, if no length of it fits.
+fn refusal_of(tag: u32, objects: u32, k: u32, room: u32, d: PacketDialect) -> u32
+    ensures { λ r. ⌜ r ≡ cond (typeOk (profileOf d) objects k room tag) 24 23 ⌝ }
 {
-    let rule = rule_of(field(s, at), objects);
-    if some_length_fits(k, room, rule) {
-        let m = field(s, at + 4);
-        if length_passes(rule, k, room, m) {
-            if k == 1 {
-                return 0;
-            }
-            // A slice made anew: one handed on as it came is copied in one piece, which waits for both its halves.
-            return walk_inside(
-                &s[0..],
-                at + 8 + (m as usize),
-                objects,
-                k - 1,
-                room - (m as u64),
-            );
-        }
+    if type_ok(tag, objects, k, room, d) {
         return BAD_LENGTH;
     }
     BAD_TYPE
 }
 
+// The `k` records that the bytes begin with, all of them there with their room: the reason of the first check that fails, or 0.
+// A payload length that passes is one that lets its type pass, so the type is asked only where the length fails.
+fn walk_inside(s: &[u8], objects: u32, k: u32, room: u32, kind: u32) -> u32
+    requires { ⌜ (0 < k) × (8 * k + room ≤ length (now s)) ⌝ }
+    ensures { λ r. ⌜ Settles (profileOf (dialectOfKind kind)) objects k room (now (s .entry)) r ⌝ }
+{
+    let d = dialect_of_kind(kind);
+    let tag = field(s, 0);
+    let rule = rule_of(tag, objects, d);
+    let m = field(s, 4);
+    if length_ok(rule, k, room, m, d) {
+        if k == 1 {
+            return 0;
+        }
+        let next = 8 + (m as usize);
+        return walk_inside(&s[next..], objects, k - 1, room - m, kind);
+    }
+    refusal_of(tag, objects, k, room, d)
+}
+
 // The records of a packet whose bytes are all there; without records there is only padding.
-fn all_records(s: &[u8], objects: u32, k: u32, room: u64) -> u32
+fn all_records(s: &[u8], objects: u32, k: u32, room: u32, d: PacketDialect) -> u32
     requires { ⌜ 40 + 8 * k + room ≤ length (now s) ⌝ }
-    ensures { λ r. ⌜ settled mmWave r (40 + 8 * k + room) ≡ judgeAt (records mmWave objects k room) 40 (now (s .entry)) ⌝ }
+    ensures { λ r. ⌜ settled (profileOf d) r (40 + 8 * k + room) ≡ judgeAt (records (profileOf d) objects k room) 40 (now (s .entry)) ⌝ }
 {
     if k == 0 {
         return 0;
     }
-    walk_inside(s, Header::SIZE, objects, k, room)
+    walk_inside(&s[Header::SIZE..], objects, k, room, kind_of(d))
 }
 
 // What follows the header, with a total length and a record count that passed.
-fn behind_header(s: &[u8], l: u32, objects: u32, k: u32) -> Judgement
+fn behind_header(s: &[u8], l: u32, objects: u32, k: u32, d: PacketDialect) -> Judgement
     requires { ⌜ 40 + 8 * k ≤ l ⌝ }
-    ensures { λ r. ⌜ r ≡ judgeAt (records mmWave objects k (l - (40 + 8 * k))) 40 (now (s .entry)) ⌝ }
+    ensures { λ r. ⌜ r ≡ judgeAt (records (profileOf d) objects k (l - (40 + 8 * k))) 40 (now (s .entry)) ⌝ }
 {
     let total = l as usize;
-    let room = (total - (Header::SIZE + 8 * (k as usize))) as u64;
+    let room = (total - (Header::SIZE + 8 * (k as usize))) as u32;
     if s.len() < total {
-        return walk(s, Header::SIZE, objects, k, room);
+        return walk(s, Header::SIZE, objects, k, room, d);
     }
-    let reason = all_records(s, objects, k, room);
+    let reason = all_records(s, objects, k, room, d);
     if reason == 0 {
-        return Judgement::Whole(KIND, total);
+        return Judgement::Whole(kind_of(d), total);
     }
     Judgement::Bad(reason)
 }
 
 // The judgement where the header is there.
-fn judge_header(s: &[u8]) -> Judgement
+fn judge_header(s: &[u8], d: PacketDialect) -> Judgement
     requires { ⌜ 40 ≤ length (now s) ⌝ }
-    ensures { λ r. ⌜ r ≡ Form·judge (packet mmWave) 0 (now (s .entry)) ⌝ }
+    ensures { λ r. ⌜ r ≡ Form·judge (packet (profileOf d)) 0 (now (s .entry)) ⌝ }
 {
     if has_magic(s) {
         let l = field(s, Header::TOTAL);
-        if total_ok(l) {
-            let k = field(s, Header::RECORDS);
-            if count_ok(l, k) {
-                let objects = field(s, Header::OBJECTS);
-                return behind_header(s, l, objects, k);
+        if total_ok(l, d) {
+            let objects = field(s, Header::OBJECTS);
+            if objects_ok(objects, d) {
+                let k = field(s, Header::RECORDS);
+                if count_ok(l, k, d) {
+                    if subframe_ok(field(s, Header::SUBFRAME), d) {
+                        return behind_header(s, l, objects, k, d);
+                    }
+                    return Judgement::Bad(BAD_FIXED);
+                }
+                return Judgement::Bad(BAD_COUNT);
             }
-            return Judgement::Bad(BAD_COUNT);
+            return Judgement::Bad(BAD_FIXED);
         }
         return Judgement::Bad(BAD_TOTAL);
     }
     Judgement::Bad(NO_MAGIC)
 }
 
-// The judgement of the bytes as a packet from their first on: kind 16 with its length, a reason from 20 to 24, or waiting.
-pub fn judge(bytes: &[u8]) -> Judgement
-    ensures { λ r. ⌜ Judges (packet mmWave) 0 (now (bytes .entry)) r ⌝ }
+// The judgement of the bytes as a packet of a dialect from their first on: its kind, 16 or 17, with the length, a reason from 20 to 24 or
+// 26, or waiting.
+pub fn judge(bytes: &[u8], d: PacketDialect) -> Judgement
+    ensures { λ r. ⌜ Judges (packet (profileOf d)) 0 (now (bytes .entry)) r ⌝ }
 {
     if bytes.len() < Header::SIZE {
-        return judge_pieces(bytes);
+        return judge_pieces(bytes, d);
     }
-    judge_header(bytes)
+    judge_header(bytes, d)
 }

@@ -1,44 +1,127 @@
-// The tests of a packet's fields: total length, record count, type and payload length (paper 01, "mmWave"; document 004).
+// The tests of a packet's fields: the header's, and a record's type and payload length (paper 01, "mmWave", document 004; paper 02, (i),
+// document 002). Where the dialects differ, a function matches on them; what they share is said once.
 ghost use mathlib.Core.Path.{_≡_};
-ghost use Rattle.mmwave.specs.Profile.{legal, lengthOk};
-ghost use Rattle.mmwave.specs.MmWave.{mmWave, perObject};
+ghost use Prim.Native.Nat.{_%_};
+ghost use Rattle.mmwave.specs.Profile.{unitOf, legal, countOk, fits, possible, typeOk, lengthOk};
+ghost use Rattle.mmwave.specs.MmWave.{totalLegal, perObject, payloadRule};
+ghost use Rattle.mmwave.specs.VitalSigns.{vitalTotal, vitalRule};
+ghost use Rattle.mmwave.specs.Dialects.{profileOf};
+ghost use Rattle.mmwave.specs.Internal.{lowBits};
 use mmwave::Header;
+use mmwave::PacketDialect;
 use mmwave::Rule;
+use mmwave::Unit;
 
-// A total length is a multiple of the unit; padding is shorter than one.
-const UNIT: u32 = 32;
+// The kinds of packets' rows.
+pub const KIND: u32 = 16;
 
-const LEAST_TOTAL: u32 = 64;
+pub const VITAL_KIND: u32 = 17;
 
 const MOST_TOTAL: u32 = 32768;
 
 const MOST_RECORDS: u32 = 32;
 
-// Is the total length legal?
-pub fn total_ok(l: u32) -> bool
-    ensures { λ r. ⌜ r ≡ mmWave .total l ⌝ }
+// -- The header
+
+// The kind of a dialect's packets.
+pub fn kind_of(d: PacketDialect) -> u32
+    ensures { λ r. ⌜ r ≡ profileOf d .kind ⌝ }
 {
-    if l % UNIT != 0 {
+    match d {
+        PacketDialect::MmWave => KIND,
+        PacketDialect::VitalSigns => VITAL_KIND,
+    }
+}
+
+// A multiple of 32 from 64 on.
+fn mmwave_total(l: u32) -> bool
+    ensures { λ r. ⌜ r ≡ totalLegal l ⌝ }
+{
+    if l % 32 != 0 {
         return false;
     }
-    if l < LEAST_TOTAL {
+    if l < 64 {
         return false;
     }
     l <= MOST_TOTAL
 }
 
-// Can a packet of this total length have so many records? The bound on the count comes before its product.
-pub fn count_ok(l: u32, k: u32) -> bool
-    ensures { λ r. ⌜ r ≡ mmWave .count l k ⌝ }
+// A multiple of 4 from 40 on, and not 44.
+fn vital_total(l: u32) -> bool
+    ensures { λ r. ⌜ r ≡ vitalTotal l ⌝ }
 {
-    if k == 0 {
-        return l == LEAST_TOTAL;
+    if l % 4 != 0 {
+        return false;
     }
+    if l == 44 {
+        return false;
+    }
+    if l < 40 {
+        return false;
+    }
+    l <= MOST_TOTAL
+}
+
+// Is the total length legal? What both dialects ask comes first: one byte settles most false magics.
+pub fn total_ok(l: u32, d: PacketDialect) -> bool
+    ensures { λ r. ⌜ r ≡ profileOf d .total l ⌝ }
+{
+    if l % 4 != 0 {
+        return false;
+    }
+    match d {
+        PacketDialect::MmWave => mmwave_total(l),
+        PacketDialect::VitalSigns => vital_total(l),
+    }
+}
+
+// Is the field at 28, the object count, legal?
+pub fn objects_ok(n: u32, d: PacketDialect) -> bool
+    ensures { λ r. ⌜ r ≡ profileOf d .objects n ⌝ }
+{
+    match d {
+        PacketDialect::MmWave => true,
+        PacketDialect::VitalSigns => n == 99,
+    }
+}
+
+// Is the subframe legal?
+pub fn subframe_ok(v: u32, d: PacketDialect) -> bool
+    ensures { λ r. ⌜ r ≡ profileOf d .subframe v ⌝ }
+{
+    match d {
+        PacketDialect::MmWave => true,
+        PacketDialect::VitalSigns => v == 0,
+    }
+}
+
+// The most bytes of padding.
+fn padding_of(d: PacketDialect) -> u32
+    ensures { λ r. ⌜ r ≡ profileOf d .padding ⌝ }
+{
+    match d {
+        PacketDialect::MmWave => 31,
+        PacketDialect::VitalSigns => 0,
+    }
+}
+
+// Can a packet of this total length have so many records? The bound on the count comes before its product.
+pub fn count_ok(l: u32, k: u32, d: PacketDialect) -> bool
+    ensures { λ r. ⌜ r ≡ countOk (profileOf d) l k ⌝ }
+{
     if MOST_RECORDS < k {
         return false;
     }
-    Header::SIZE + 8 * (k as usize) <= l as usize
+    if (l as usize) < Header::SIZE + 8 * (k as usize) {
+        return false;
+    }
+    if 0 < k {
+        return true;
+    }
+    l - 40 <= padding_of(d)
 }
+
+// -- The rule of a type
 
 // So many bytes for each object; without objects there is no such record. The product needs 64 bits.
 fn per_object(size: u8, objects: u32) -> Rule
@@ -51,48 +134,115 @@ fn per_object(size: u8, objects: u32) -> Rule
     Rule::Exact(bytes)
 }
 
-// The payload lengths of a record's type.
-pub fn rule_of(tag: u32, objects: u32) -> Rule
-    ensures { λ r. ⌜ r ≡ mmWave .rule tag objects ⌝ }
+fn mmwave_rule(tag: u32, objects: u32) -> Rule
+    ensures { λ r. ⌜ r ≡ payloadRule tag objects ⌝ }
 {
     match tag {
         1 => per_object(16, objects),
-        2 => Rule::Even,
-        3 => Rule::Even,
-        4 => Rule::Fours,
-        5 => Rule::Even,
+        2 => Rule::Multiple(Unit::Two),
+        3 => Rule::Multiple(Unit::Two),
+        4 => Rule::Multiple(Unit::Four),
+        5 => Rule::Multiple(Unit::Two),
         6 => Rule::Exact(24),
         7 => per_object(4, objects),
-        8 => Rule::Fours,
+        8 => Rule::Multiple(Unit::Four),
         9 => Rule::Exact(28),
         _ => Rule::Free,
     }
 }
 
-// Does a payload of `m` bytes fit, with `k` records left (this one counted) and `room` bytes for their payloads and the padding?
-fn payload_fits(k: u32, room: u64, m: u64) -> bool
-    ensures { λ r. ⌜ r ≡ mmWave .fits k room m ⌝ }
+fn vital_rule(tag: u32) -> Rule
+    ensures { λ r. ⌜ r ≡ vitalRule tag ⌝ }
 {
+    match tag {
+        1 => Rule::Exact(24),
+        2 => Rule::Multiple(Unit::Four),
+        3 => Rule::Multiple(Unit::Sixteen),
+        4 => Rule::Exact(20),
+        _ => Rule::Never,
+    }
+}
+
+// The payload lengths of a record's type.
+pub fn rule_of(tag: u32, objects: u32, d: PacketDialect) -> Rule
+    ensures { λ r. ⌜ r ≡ profileOf d .rule tag objects ⌝ }
+{
+    match d {
+        PacketDialect::MmWave => mmwave_rule(tag, objects),
+        PacketDialect::VitalSigns => vital_rule(tag),
+    }
+}
+
+// -- A payload length
+
+// The bits below a unit.
+fn low_bits(unit: Unit) -> u32
+    ensures { λ r. ⌜ r ≡ lowBits unit ⌝ }
+{
+    match unit {
+        Unit::Two => 1,
+        Unit::Four => 3,
+        Unit::Sixteen => 15,
+    }
+}
+
+// What is left of a number behind the largest multiple of the unit, with no branch on the unit.
+fn beyond(unit: Unit, m: u32) -> u32
+    ensures { λ r. ⌜ r ≡ m % unitOf unit ⌝ }
+{
+    m & low_bits(unit)
+}
+
+// Does a payload of `m` bytes fit, with `k` records left (this one counted) and `room` bytes for their payloads and the padding?
+fn payload_fits(k: u32, room: u32, m: u32, d: PacketDialect) -> bool
+    ensures { λ r. ⌜ r ≡ fits (profileOf d) k room m ⌝ }
+{
+    if 1 < k {
+        return m <= room;
+    }
     if room < m {
         return false;
     }
+    room - m <= padding_of(d)
+}
+
+// The same for a length that may need more than 32 bits.
+fn exact_fits(k: u32, room: u32, n: u64, d: PacketDialect) -> bool
+    ensures { λ r. ⌜ r ≡ fits (profileOf d) k room n ⌝ }
+{
+    if (room as u64) < n {
+        return false;
+    }
+    payload_fits(k, room, n as u32, d)
+}
+
+// Does some multiple of the unit fit?
+fn some_multiple_fits(k: u32, room: u32, unit: Unit, d: PacketDialect) -> bool
+    ensures { λ r. ⌜ r ≡ possible (profileOf d) k room (Rule.Multiple unit) ⌝ }
+{
     if 1 < k {
         return true;
     }
-    room - m < UNIT as u64
+    beyond(unit, room) <= padding_of(d)
 }
 
-// Does some length of the rule fit? All rules but two have one for every room.
-pub fn some_length_fits(k: u32, room: u64, rule: Rule) -> bool
-    ensures { λ r. ⌜ r ≡ mmWave .possible k room rule ⌝ }
+// Does some length of the rule fit?
+fn some_length_fits(k: u32, room: u32, rule: Rule, d: PacketDialect) -> bool
+    ensures { λ r. ⌜ r ≡ possible (profileOf d) k room rule ⌝ }
 {
     match rule {
         Rule::Never => false,
-        Rule::Exact(m) => payload_fits(k, room, m),
-        Rule::Even => true,
-        Rule::Fours => true,
+        Rule::Exact(n) => exact_fits(k, room, n, d),
+        Rule::Multiple(unit) => some_multiple_fits(k, room, unit, d),
         Rule::Free => true,
     }
+}
+
+// Does some legal payload length of this type fit?
+pub fn type_ok(tag: u32, objects: u32, k: u32, room: u32, d: PacketDialect) -> bool
+    ensures { λ r. ⌜ r ≡ typeOk (profileOf d) objects k room tag ⌝ }
+{
+    some_length_fits(k, room, rule_of(tag, objects, d), d)
 }
 
 // Is this length one of the rule's?
@@ -102,17 +252,17 @@ fn length_legal(rule: Rule, m: u32) -> bool
     match rule {
         Rule::Never => false,
         Rule::Exact(n) => m as u64 == n,
-        Rule::Even => m % 2 == 0,
-        Rule::Fours => m % 4 == 0,
+        Rule::Multiple(unit) => beyond(unit, m) == 0,
         Rule::Free => true,
     }
 }
 
-pub fn length_ok(rule: Rule, k: u32, room: u64, m: u32) -> bool
-    ensures { λ r. ⌜ r ≡ lengthOk mmWave rule k room m ⌝ }
+// Is the payload length legal for the rule, and does it fit?
+pub fn length_ok(rule: Rule, k: u32, room: u32, m: u32, d: PacketDialect) -> bool
+    ensures { λ r. ⌜ r ≡ lengthOk (profileOf d) rule k room m ⌝ }
 {
     if length_legal(rule, m) {
-        return payload_fits(k, room, m as u64);
+        return payload_fits(k, room, m, d);
     }
     false
 }

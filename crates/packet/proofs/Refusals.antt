@@ -4,15 +4,13 @@ use mathlib.Core.Bool.{Bool, true, false, cond}
 use mathlib.Core.Path.{_≡_, refl, sym, ap, _∙_}
 use mathlib.Core.Logic.{_↔_, Iff·trans, Iff·rfl}
 use mathlib.Core.List.{List}
-use Prim.Native.Nat.{ℕ, zero, suc, _+_, _*_, _^_, _<_, _≤_}
+use Prim.Native.Nat.{ℕ, _+_, _*_, _^_, _<_, _≤_}
 use native.Mathlib.Omega.{arith}
 use native.Mathlib.Decide.{decLt}
 use lib.Dec.{eqb, ltb}
 use borrow.Author.Tests.{ltb-true, ltb-false, lt-ltb, le-ltb, eq-eqb, eqb-true, eqb-false}
 use Rattle.digits.specs.LittleEndian.{wordAt}
 use Rattle.digits.proofs.Choices.{test, both-ways}
-use Rattle.mmwave.specs.MmWave.{mmWave}
-use Rattle.mmwave.specs.Paper.{Packet}
 use Rattle.units.specs.declared.Quantity.{Quantity}
 use Rattle.units.specs.Float.{notFinite, magnitude}
 use Rattle.units.specs.Units.{millimetres}
@@ -23,12 +21,12 @@ use Rattle.packet.specs.declared.PacketRecord.{PacketRecord}
 use Rattle.packet.specs.declared.PacketStep.{PacketStep}
 use Rattle.packet.specs.declared.PacketPoints.{PacketPoints}
 use Rattle.packet.specs.declared.PacketPoint.{PacketPoint}
-use Rattle.packet.specs.Walk.{objectsOf, recordsOf, typeAt, recordAt, startsAmong, firstOfType, IsFirst}
+use Rattle.packet.specs.Walk.{objectsOf, recordsOf, recordAt, startsAmong, IsFirst}
 use Rattle.packet.specs.Fields.{isPacket, noHeader, headerShown, headerOf}
 use Rattle.packet.specs.Fields.{noRecord, recordShown, recordRead, recordOf, noStep, stepShown, stepRead, stepOf}
 use Rattle.packet.specs.Fields.{noPoints, pointsFound, pointRecord, pointsRead, pointsOf}
 use Rattle.packet.specs.Fields.{noPoint, pointFrom, pointAt, pointFound, pointRead, pointOf}
-use Rattle.packet.specs.Refusals.{HeaderRefusals, RecordRefusals, StepRefusals, RecordStarts, PointsRefusals, HasPoints}
+use Rattle.packet.specs.Refusals.{PacketOf, HeaderRefusals, RecordRefusals, StepRefusals, RecordStarts, PointsRefusals, HasPoints}
 use Rattle.packet.specs.Refusals.{Measured, PointThere, PointRefusals}
 use Rattle.packet.proofs.Opened.{packet-exactly}
 use Rattle.packet.proofs.Theorems.{found-first, missing-none, starts-exactly}
@@ -51,27 +49,27 @@ module _ {A : Type 0} (number : A → ℕ) (t : Bool) (yes no : A) (n : ℕ) whe
 
 -- -- Any answer on a slice
 
-module _ (bs : List ℕ) {A : Type 0} (number : A → ℕ) (read none : A) (five : number none ≡ 5) where
+module _ (kind : ℕ) (bs : List ℕ) {A : Type 0} (number : A → ℕ) (read none : A) (five : number none ≡ 5) where
   -- 5 says that the slice is no packet
-  pub five-exactly : (number read ≡ 5 → ⊥) → (number (cond (isPacket mmWave bs) read none) ≡ 5) ↔ (Packet bs → ⊥)
-  five-exactly m = Iff·trans (second-exactly number (isPacket mmWave bs) read none 5 five m) (false-exactly (packet-exactly bs))
+  pub five-exactly : (number read ≡ 5 → ⊥) → (number (cond (isPacket kind bs) read none) ≡ 5) ↔ (PacketOf kind bs → ⊥)
+  five-exactly m = Iff·trans (second-exactly number (isPacket kind bs) read none 5 five m) (false-exactly (packet-exactly kind bs))
 
   -- any other number is the answer on a packet
   pub number-exactly : {T : Type 0} (n : ℕ) → (n ≡ 5 → ⊥) → (number read ≡ n) ↔ T
-      → (number (cond (isPacket mmWave bs) read none) ≡ n) ↔ (Packet bs × T)
-  number-exactly n m i = test (isPacket mmWave bs)
-      (λ y. rw y (λ h. (packet-exactly bs .0 y, i .0 h), λ p. i .1 (p .1)))
-      (λ f. rw f (λ h. absurd (m (sym h ∙ five)), λ p. both-ways (isPacket mmWave bs) (packet-exactly bs .1 (p .0)) f))
+      → (number (cond (isPacket kind bs) read none) ≡ n) ↔ (PacketOf kind bs × T)
+  number-exactly n m i = test (isPacket kind bs)
+      (λ y. rw y (λ h. (packet-exactly kind bs .0 y, i .0 h), λ p. i .1 (p .1)))
+      (λ f. rw f (λ h. absurd (m (sym h ∙ five)), λ p. both-ways (isPacket kind bs) (packet-exactly kind bs .1 (p .0)) f))
 
 -- -- The header
 
-pub header-refusals : (bs : List ℕ) → HeaderRefusals bs
+pub header-refusals : (kind : ℕ) (bs : List ℕ) → HeaderRefusals kind bs
 unfolding headerOf
-header-refusals bs = record {
+header-refusals kind bs = record {
   answers = Iff·trans
-      (number-exactly bs number (headerShown bs) (noHeader 5) refl 0 (λ e. omega arith) Iff·rfl)
+      (number-exactly kind bs number (headerShown bs) (noHeader 5) refl 0 (λ e. omega arith) Iff·rfl)
       (λ p. p .0, λ p. (p, refl));
-  no-packet = five-exactly bs number (headerShown bs) (noHeader 5) refl (λ e. omega arith);
+  no-packet = five-exactly kind bs number (headerShown bs) (noHeader 5) refl (λ e. omega arith);
 }
   where
     number : PacketHeader → ℕ
@@ -79,14 +77,14 @@ header-refusals bs = record {
 
 -- -- Records
 
-pub record-refusals : (bs : List ℕ) (j : ℕ) → RecordRefusals bs j
+pub record-refusals : (kind : ℕ) (bs : List ℕ) (j : ℕ) → RecordRefusals kind bs j
 unfolding recordOf recordRead
-record-refusals bs j = record {
-  answers = number-exactly bs number (recordRead bs j) (noRecord 5) refl 0 (λ e. omega arith)
+record-refusals kind bs j = record {
+  answers = number-exactly kind bs number (recordRead bs j) (noRecord 5) refl 0 (λ e. omega arith)
       (Iff·trans (first-exactly number below shown (noRecord 6) 0 refl (λ e. omega arith)) (ltb-true j k, lt-ltb j k));
-  no-packet = five-exactly bs number (recordRead bs j) (noRecord 5) refl
+  no-packet = five-exactly kind bs number (recordRead bs j) (noRecord 5) refl
       (neither number below shown (noRecord 6) 5 (λ e. omega arith) (λ e. omega arith));
-  over = number-exactly bs number (recordRead bs j) (noRecord 5) refl 6 (λ e. omega arith)
+  over = number-exactly kind bs number (recordRead bs j) (noRecord 5) refl 6 (λ e. omega arith)
       (Iff·trans (second-exactly number below shown (noRecord 6) 6 refl (λ e. omega arith)) (ltb-false j k, le-ltb j k));
 }
   where
@@ -104,14 +102,14 @@ record-refusals bs j = record {
 
 -- -- Steps
 
-pub step-refusals : (bs : List ℕ) (at : ℕ) → StepRefusals bs at
+pub step-refusals : (kind : ℕ) (bs : List ℕ) (at : ℕ) → StepRefusals kind bs at
 unfolding stepOf stepRead
-step-refusals bs at = record {
-  answers = number-exactly bs number (stepRead bs at) (noStep at 5) refl 0 (λ e. omega arith)
+step-refusals kind bs at = record {
+  answers = number-exactly kind bs number (stepRead bs at) (noStep at 5) refl 0 (λ e. omega arith)
       (Iff·trans (first-exactly number here (stepShown bs at) (noStep at 6) 0 refl (λ e. omega arith)) starts);
-  no-packet = five-exactly bs number (stepRead bs at) (noStep at 5) refl
+  no-packet = five-exactly kind bs number (stepRead bs at) (noStep at 5) refl
       (neither number here (stepShown bs at) (noStep at 6) 5 (λ e. omega arith) (λ e. omega arith));
-  nowhere = number-exactly bs number (stepRead bs at) (noStep at 5) refl 6 (λ e. omega arith)
+  nowhere = number-exactly kind bs number (stepRead bs at) (noStep at 5) refl 6 (λ e. omega arith)
       (Iff·trans (second-exactly number here (stepShown bs at) (noStep at 6) 6 refl (λ e. omega arith)) (false-exactly starts));
 }
   where
@@ -135,9 +133,9 @@ missing-lacks bs m h = missing-none 1 bs (recordsOf bs) 40 m (h .0) (h .1) (h .2
 pub points-refusals : (bs : List ℕ) → PointsRefusals bs
 unfolding pointsOf
 points-refusals bs = record {
-  answers = number-exactly bs number (pointsRead bs) (noPoints 5) refl 0 (λ e. omega arith) (zero-exactly (pointRecord bs) refl);
-  no-packet = five-exactly bs number (pointsRead bs) (noPoints 5) refl (not-five (pointRecord bs));
-  none = number-exactly bs number (pointsRead bs) (noPoints 5) refl 7 (λ e. omega arith) (seven-exactly (pointRecord bs) refl);
+  answers = number-exactly 16 bs number (pointsRead bs) (noPoints 5) refl 0 (λ e. omega arith) (zero-exactly (pointRecord bs) refl);
+  no-packet = five-exactly 16 bs number (pointsRead bs) (noPoints 5) refl (not-five (pointRecord bs));
+  none = number-exactly 16 bs number (pointsRead bs) (noPoints 5) refl 7 (λ e. omega arith) (seven-exactly (pointRecord bs) refl);
 }
   where
     number : PacketPoints → ℕ
@@ -264,10 +262,10 @@ module _ (bs : List ℕ) (i : ℕ) where
 pub point-refusals : (bs : List ℕ) (i : ℕ) → PointRefusals bs i
 unfolding pointOf
 point-refusals bs i = record {
-  answers = number-exactly bs number (pointRead bs i) (noPoint 5) refl 0 (λ e. omega arith) (zero-exactly bs i (pointRecord bs) refl);
-  no-packet = five-exactly bs number (pointRead bs i) (noPoint 5) refl (not-five bs i (pointRecord bs));
-  none = number-exactly bs number (pointRead bs i) (noPoint 5) refl 7 (λ e. omega arith) (seven-exactly bs i (pointRecord bs) refl);
-  over = number-exactly bs number (pointRead bs i) (noPoint 5) refl 6 (λ e. omega arith) (six-exactly bs i (pointRecord bs) refl);
+  answers = number-exactly 16 bs number (pointRead bs i) (noPoint 5) refl 0 (λ e. omega arith) (zero-exactly bs i (pointRecord bs) refl);
+  no-packet = five-exactly 16 bs number (pointRead bs i) (noPoint 5) refl (not-five bs i (pointRecord bs));
+  none = number-exactly 16 bs number (pointRead bs i) (noPoint 5) refl 7 (λ e. omega arith) (seven-exactly bs i (pointRecord bs) refl);
+  over = number-exactly 16 bs number (pointRead bs i) (noPoint 5) refl 6 (λ e. omega arith) (six-exactly bs i (pointRecord bs) refl);
 }
   where
     number : PacketPoint → ℕ

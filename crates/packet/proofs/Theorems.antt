@@ -1,19 +1,17 @@
 -- What the readers' definitions say together: what is found is the first record of its type, and steps from 40 give the records one by one.
-use mathlib.Core.Bool.{Bool, true, false, cond}
+use mathlib.Core.Bool.{true, false}
 use mathlib.Core.Path.{_≡_, refl, sym, ap, _∙_}
 use mathlib.Core.Logic.{_↔_}
 use mathlib.Core.List.{List}
-use Prim.Native.Nat.{ℕ, zero, suc, _+_, _-_, _*_, _<_, _≤_}
+use Prim.Native.Nat.{ℕ, zero, suc, _+_, _*_, _<_, _≤_}
 use native.Mathlib.Omega.{arith}
 use lib.Dec.{eqb}
 use borrow.Author.Tests.{lt-ltb, eq-eqb, ne-eqb, eqb-true}
 use Rattle.digits.proofs.Choices.{test, both-ways}
-use Rattle.mmwave.specs.MmWave.{mmWave}
-use Rattle.packet.specs.declared.Found.{Found}
 use Rattle.packet.specs.declared.Found.the-variants.{At, Missing}
 use Rattle.packet.specs.declared.PacketStep.{PacketStep}
 use Rattle.packet.specs.Steps.{stepOver, cursorAfter, StepsAreRecords}
-use Rattle.packet.specs.Walk.{objectsOf, recordsOf, typeAt, lengthAt, endAt, recordAt, startsAmong, ofType, firstOfType, IsFirst}
+use Rattle.packet.specs.Walk.{recordsOf, typeAt, endAt, recordAt, startsAmong, ofType, firstOfType, IsFirst}
 use Rattle.packet.specs.Fields.{isPacket, recordRead, recordOf, noStep, stepShown, stepRead, stepOf}
 
 -- -- The first record of a type
@@ -94,31 +92,31 @@ start-is-record bs (suc k) p at h =
 pub starts-exactly : (bs : List ℕ) (k p at : ℕ) → (startsAmong bs k p at ≡ true) ↔ ((j : ℕ) × (j < k) × (at ≡ recordAt bs j p))
 starts-exactly bs k p at = (start-is-record bs k p at, λ r. rw (r .2) (record-starts bs (r .0) k p (r .1)))
 
-module _ (bs : List ℕ) (y : isPacket mmWave bs ≡ true) where
-  step-at : (j : ℕ) → j < recordsOf bs → stepOf mmWave bs (recordAt bs j 40) ≡ stepShown bs (recordAt bs j 40)
+module _ (kind : ℕ) (bs : List ℕ) (y : isPacket kind bs ≡ true) where
+  step-at : (j : ℕ) → j < recordsOf bs → stepOf kind bs (recordAt bs j 40) ≡ stepShown bs (recordAt bs j 40)
   unfolding stepOf stepRead
   step-at j l = rw (y, record-starts bs j (recordsOf bs) 40 l) refl
 
   -- after j steps, up to the count, the cursor is at record j
-  after-steps : (j : ℕ) → j ≤ recordsOf bs → cursorAfter mmWave bs j ≡ recordAt bs j 40
+  after-steps : (j : ℕ) → j ≤ recordsOf bs → cursorAfter kind bs j ≡ recordAt bs j 40
   unfolding cursorAfter recordAt
   after-steps zero l = refl
   after-steps (suc j) l =
-      ap (λ (p : ℕ). stepOf mmWave bs p .next .at) (after-steps j (omega arith))
+      ap (λ (p : ℕ). stepOf kind bs p .next .at) (after-steps j (omega arith))
       ∙ ap (λ (s : PacketStep). s .next .at) (step-at j (omega arith))
       ∙ sym (record-behind bs j 40)
 
   step-each : (j : ℕ) → j < recordsOf bs
-      → stepOf mmWave bs (cursorAfter mmWave bs j) ≡ stepOver (recordOf mmWave bs j) (cursorAfter mmWave bs (suc j))
+      → stepOf kind bs (cursorAfter kind bs j) ≡ stepOver (recordOf kind bs j) (cursorAfter kind bs (suc j))
   unfolding recordOf recordRead
   step-each j l =
       rw (after-steps j (omega arith), after-steps (suc j) (omega arith), step-at j l, y, lt-ltb j (recordsOf bs) l, record-behind bs j 40)
       refl
 
-  step-end : stepOf mmWave bs (cursorAfter mmWave bs (recordsOf bs)) ≡ noStep (cursorAfter mmWave bs (recordsOf bs)) 6
+  step-end : stepOf kind bs (cursorAfter kind bs (recordsOf bs)) ≡ noStep (cursorAfter kind bs (recordsOf bs)) 6
   unfolding stepOf stepRead
   step-end = rw (after-steps (recordsOf bs) (omega arith), y, none-at-end bs (recordsOf bs) 40) refl
 
 -- stepping from 40 gives record 0, 1, .. K - 1, and then 6
-pub steps-are-records : (bs : List ℕ) → isPacket mmWave bs ≡ true → StepsAreRecords mmWave bs
-steps-are-records bs y = record { each = step-each bs y; then-refused = step-end bs y }
+pub steps-are-records : (kind : ℕ) (bs : List ℕ) → isPacket kind bs ≡ true → StepsAreRecords kind bs
+steps-are-records kind bs y = record { each = step-each kind bs y; then-refused = step-end kind bs y }

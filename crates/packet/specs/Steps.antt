@@ -2,7 +2,6 @@
 use mathlib.Core.Path.{_≡_}
 use mathlib.Core.List.{List}
 use Prim.Native.Nat.{ℕ, zero, suc, _<_}
-use Rattle.mmwave.specs.Profile.{Profile}
 use Rattle.packet.specs.declared.PacketRecord.{PacketRecord}
 use Rattle.packet.specs.declared.PacketStep.{PacketStep}
 use Rattle.packet.specs.Walk.{recordsOf}
@@ -13,11 +12,12 @@ abbrev pub stepOver : PacketRecord → ℕ → PacketStep
 stepOver r at = record { refusal = r .refusal; tag = r .tag; start = r .start; length = r .length; next = record { at = at } }
 
 -- the cursor's offset after j steps from 40
-unfoldable pub cursorAfter : Profile → List ℕ → ℕ → ℕ
-cursorAfter P bs zero = 40
-cursorAfter P bs (suc j) = stepOf P bs (cursorAfter P bs j) .next .at
+unfoldable pub cursorAfter : ℕ → List ℕ → ℕ → ℕ
+cursorAfter kind bs zero = 40
+cursorAfter kind bs (suc j) = stepOf kind bs (cursorAfter kind bs j) .next .at
 
 -- the steps from 40 on show record 0, 1, .. K - 1, and the next one answers 6 and stays
-pub record StepsAreRecords (P : Profile) (bs : List ℕ) : Type 0 where
-  pub each : (j : ℕ) → j < recordsOf bs → stepOf P bs (cursorAfter P bs j) ≡ stepOver (recordOf P bs j) (cursorAfter P bs (suc j))
-  pub then-refused : stepOf P bs (cursorAfter P bs (recordsOf bs)) ≡ noStep (cursorAfter P bs (recordsOf bs)) 6
+pub record StepsAreRecords (kind : ℕ) (bs : List ℕ) : Type 0 where
+  pub each : (j : ℕ) → j < recordsOf bs
+      → stepOf kind bs (cursorAfter kind bs j) ≡ stepOver (recordOf kind bs j) (cursorAfter kind bs (suc j))
+  pub then-refused : stepOf kind bs (cursorAfter kind bs (recordsOf bs)) ≡ noStep (cursorAfter kind bs (recordsOf bs)) 6

@@ -1,15 +1,17 @@
-// The header of one whole mmWave packet, its records, and a cursor over them (paper 01, "Fields").
+// The header of one whole packet of the kind named, its records, and a cursor over them (paper 01, "Fields"; paper 02, (i)).
 ghost use mathlib.Core.Path.{_≡_};
 ghost use Prim.Native.Nat.{suc, _≤_};
-ghost use Rattle.mmwave.specs.MmWave.{mmWave};
-ghost use Rattle.mmwave.specs.Paper.{Packet};
-ghost use Rattle.packet.specs.Walk.{lengthAt, endAt, recordAt, startsAmong};
-ghost use Rattle.packet.specs.Fields.{noHeader, headerShown, headerOf};
+ghost use Rattle.packet.specs.Walk.{recordsOf, lengthAt, endAt, recordAt, startsAmong};
+ghost use Rattle.packet.specs.Fields.{dialectNamed, noHeader, headerShown, headerOf};
 ghost use Rattle.packet.specs.Fields.{noRecord, recordShown, recordRead, RecordShown, noStep, stepShown, stepRead, StepShown};
 ghost use Rattle.packet.specs.Internal.{Walkable};
 use form::Judgement;
 use mmwave::Header;
+use mmwave::PacketDialect;
+use mmwave_rules::KIND;
+use mmwave_rules::VITAL_KIND;
 use packet::Cursor;
+use packet::NamedKind;
 use packet::PacketHeader;
 use packet::PacketRecord;
 use packet::PacketStep;
@@ -23,6 +25,19 @@ pub const NO_SUCH_INDEX: u32 = 6;
 pub const RECORD_HEADER: usize = 8;
 
 const LENGTH_FIELD: usize = 4;
+
+// The dialect whose packets have this kind.
+fn dialect_named(kind: u32) -> NamedKind
+    ensures { λ r. ⌜ r ≡ dialectNamed kind ⌝ }
+{
+    if kind == KIND {
+        return NamedKind::Packets(PacketDialect::MmWave);
+    }
+    if kind == VITAL_KIND {
+        return NamedKind::Packets(PacketDialect::VitalSigns);
+    }
+    NamedKind::Other
+}
 
 // -- The walk over the records
 
@@ -109,14 +124,17 @@ fn read_header(s: &[u8]) -> PacketHeader
     PacketHeader { refusal: 0, fields }
 }
 
-// The header's eight fields, or 5 if the slice is not exactly one whole packet.
-pub fn header(packet: &[u8]) -> PacketHeader
-    ensures { λ r. ⌜ r ≡ headerOf mmWave (now (packet .entry)) ⌝ }
+// The header's eight fields, or 5 if the slice is not exactly one whole packet of this kind, 16 or 17.
+pub fn header(kind: u32, packet: &[u8]) -> PacketHeader
+    ensures { λ r. ⌜ r ≡ headerOf kind (now (packet .entry)) ⌝ }
 {
-    let Judgement::Whole(kind, length) = mmwave_judge::judge(packet) else {
+    let NamedKind::Packets(d) = dialect_named(kind) else {
         return no_header();
     };
-    if kind != mmwave_pieces::KIND {
+    let Judgement::Whole(found, length) = mmwave_judge::judge(packet, d) else {
+        return no_header();
+    };
+    if found != kind {
         return no_header();
     }
     if length != packet.len() {
@@ -156,7 +174,7 @@ fn record_from(s: &[u8], p: usize) -> PacketRecord
 
 // Record `index` of a packet.
 fn read_record(s: &[u8], index: usize) -> PacketRecord
-    requires { ⌜ Packet (now s) ⌝ }
+    requires { ⌜ Walkable (now s) (recordsOf (now s)) 40 ⌝ }
     ensures { λ r. ⌜ r ≡ recordRead (now (s .entry)) index ⌝ }
 {
     let records = digits::word_at(s, Header::RECORDS) as usize;
@@ -167,15 +185,18 @@ fn read_record(s: &[u8], index: usize) -> PacketRecord
     record_from(s, p)
 }
 
-// Record `index` of the packet: its type and the part of the slice that is its payload; 5, or 6 for an index at or over the record
-// count.
-pub fn record(packet: &[u8], index: usize) -> PacketRecord
-    ensures { λ r. ⌜ RecordShown mmWave (now (packet .entry)) index r ⌝ }
+// Record `index` of the packet of this kind: its type and the part of the slice that is its payload; 5, or 6 for an index at or over the
+// record count.
+pub fn record(kind: u32, packet: &[u8], index: usize) -> PacketRecord
+    ensures { λ r. ⌜ RecordShown kind (now (packet .entry)) index r ⌝ }
 {
-    let Judgement::Whole(kind, length) = mmwave_judge::judge(packet) else {
+    let NamedKind::Packets(d) = dialect_named(kind) else {
         return no_record(NOT_ONE_PACKET);
     };
-    if kind != mmwave_pieces::KIND {
+    let Judgement::Whole(found, length) = mmwave_judge::judge(packet, d) else {
+        return no_record(NOT_ONE_PACKET);
+    };
+    if found != kind {
         return no_record(NOT_ONE_PACKET);
     }
     if length != packet.len() {
@@ -216,7 +237,7 @@ fn step_from(s: &[u8], p: usize) -> PacketStep
 
 // The step from `at` in a packet.
 fn read_step(s: &[u8], at: usize) -> PacketStep
-    requires { ⌜ Packet (now s) ⌝ }
+    requires { ⌜ Walkable (now s) (recordsOf (now s)) 40 ⌝ }
     ensures { λ r. ⌜ r ≡ stepRead (now (s .entry)) at ⌝ }
 {
     let records = digits::word_at(s, Header::RECORDS);
@@ -226,16 +247,19 @@ fn read_step(s: &[u8], at: usize) -> PacketStep
     no_step(at, NO_SUCH_INDEX)
 }
 
-// The record of this packet that starts at the cursor, and the cursor behind it; 5, or 6 where no record starts there. From 40 on,
-// steps give record 0, 1, .. and then 6.
-pub fn step(packet: &[u8], cursor: Cursor) -> PacketStep
-    ensures { λ r. ⌜ StepShown mmWave (now (packet .entry)) (cursor .at) r ⌝ }
+// The record of the packet of this kind that starts at the cursor, and the cursor behind it; 5, or 6 where no record starts there.
+// From 40 on, steps give record 0, 1, .. and then 6.
+pub fn step(kind: u32, packet: &[u8], cursor: Cursor) -> PacketStep
+    ensures { λ r. ⌜ StepShown kind (now (packet .entry)) (cursor .at) r ⌝ }
 {
     let at = cursor.at;
-    let Judgement::Whole(kind, length) = mmwave_judge::judge(packet) else {
+    let NamedKind::Packets(d) = dialect_named(kind) else {
         return no_step(at, NOT_ONE_PACKET);
     };
-    if kind != mmwave_pieces::KIND {
+    let Judgement::Whole(found, length) = mmwave_judge::judge(packet, d) else {
+        return no_step(at, NOT_ONE_PACKET);
+    };
+    if found != kind {
         return no_step(at, NOT_ONE_PACKET);
     }
     if length != packet.len() {

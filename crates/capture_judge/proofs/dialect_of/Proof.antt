@@ -15,7 +15,11 @@ unfolding dialectOf
 returns-2 c = ap dialectOf (sym (c .match .keys2))
 
 returns-3 : tie.Need-returns-3
-returns-3 c = dialect-none _ (omega arith) (omega arith)
+unfolding dialectOf
+returns-3 c = ap dialectOf (sym (c .match .keys3))
+
+returns-4 : tie.Need-returns-4
+returns-4 c = dialect-none _ (omega arith) (omega arith) (omega arith)
 
 pub dialect-of-spec : {M : Type 1} → statement M
-dialect-of-spec = tie.close (tie.spec returns returns-2 returns-3)
+dialect-of-spec = tie.close (tie.spec returns returns-2 returns-3 returns-4)

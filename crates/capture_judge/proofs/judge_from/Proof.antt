@@ -3,7 +3,7 @@ use mathlib.Core.Path.{ap, _∙_}
 use borrow.Author.Needs.{needs}
 use Rattle.capture.specs.Dialects.{judgeOf}
 use Rattle.form.proofs.PieceLaws.{judges}
-use Rattle.capture.proofs.EntryLaws.{part-drop}
+use Rattle.digits.proofs.Lists.{part-drop}
 use Rattle.capture.proofs.Wires.{judges-beyond}
 use Rattle.capture_judge.proofs.judge_from.Statement.{statement}
 use Rattle.capture_judge.proofs.judge_from.Tie as tie

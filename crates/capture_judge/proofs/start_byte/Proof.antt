@@ -1,7 +1,7 @@
 -- `capture_judge::start_byte` meets its contract. One arm for each dialect.
 use mathlib.Core.Path.{sym, ap}
-use borrow.Author.Needs.{needs}
 use Rattle.capture.specs.Dialects.{startOf}
+use borrow.Author.Needs.{needs}
 use Rattle.capture_judge.proofs.start_byte.Statement.{statement}
 use Rattle.capture_judge.proofs.start_byte.Tie as tie
 

@@ -1,6 +1,5 @@
 -- The walk's judgement, or its number where all bytes are there.
 use native.Mathlib.Omega.{arith}
-use Rattle.mmwave.specs.MmWave.{mmWave}
 use Rattle.mmwave.proofs.Within.{settled-whole, settled-bad}
 use borrow.Author.Needs.{needs}
 use Rattle.mmwave_judge.proofs.behind_header.Statement.{statement}
@@ -15,6 +14,9 @@ add-room c = search needs
 sub-room : tie.Need-sub-room
 sub-room c = search needs
 
+cast-room : tie.Need-cast-room
+cast-room c = search needs
+
 walk-requires : tie.Need-walk-requires
 walk-requires c κs = search needs
 
@@ -24,12 +26,16 @@ returns c = search needs
 all-records-requires : tie.Need-all-records-requires
 all-records-requires c κs = search needs
 
+kind-of-requires : tie.Need-kind-of-requires
+kind-of-requires c κs = search needs
+
 returns-2 : tie.Need-returns-2
-unfolding mmWave
-returns-2 c = settled-whole mmWave _ _ _ (c .before .all-records .ensures) (c .if2 .taken) (omega arith)
+returns-2 c =
+    let i2 = c .before in
+    settled-whole _ _ _ _ (c .kind-of .ensures) (i2 .before .all-records .ensures) (i2 .if2 .taken) (omega arith)
 
 returns-3 : tie.Need-returns-3
-returns-3 c = settled-bad mmWave _ _ (c .before .all-records .ensures) (c .if2 .left)
+returns-3 c = settled-bad _ _ _ (c .before .all-records .ensures) (c .if2 .left)
 
 pub behind-header-spec : {M : Type 1} → statement M
 behind-header-spec =
@@ -38,8 +44,10 @@ behind-header-spec =
     mul-room
     add-room
     sub-room
+    cast-room
     walk-requires
     returns
     all-records-requires
+    kind-of-requires
     returns-2
     returns-3)

@@ -2,7 +2,6 @@
 use mathlib.Core.Bool.{false}
 use mathlib.Core.Path.{refl}
 use Rattle.digits.proofs.Choices.{both-ways}
-use native.Mathlib.Omega.{arith}
 use Rattle.mmwave.proofs.Within.{magic-met, magic-fours}
 use borrow.Author.Needs.{needs}
 use Rattle.mmwave_judge.proofs.has_magic.Statement.{statement}

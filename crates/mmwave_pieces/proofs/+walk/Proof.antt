@@ -1,12 +1,11 @@
 -- The first record, and then the remaining ones, one fewer; a whole record lies in the room.
 use borrow.Author.Needs.{needs}
 use Rattle.form.proofs.PieceLaws.{go-on, halt, judges}
-use mathlib.Core.Path.{_≡_, refl, sym, ap, _∙_}
+use mathlib.Core.Path.{sym, ap, _∙_}
 use native.Mathlib.Omega.{arith}
 use Rattle.form.specs.Form.{Form, judgeAt}
-use Rattle.mmwave.specs.MmWave.{mmWave}
+use Rattle.mmwave.specs.Dialects.{profileOf}
 use Rattle.mmwave.proofs.RecordLaws.{records-none, records-more, entry-fits}
-use Rattle.mmwave.proofs.MmWaveSound.{mmWave-sound}
 use Prim.Native.Nat.{ℕ, _<_}
 use borrow.Fn.Kinds.{In}
 use borrow.Fn.PlainCycle.{Measures, is, falls, and}
@@ -42,7 +41,7 @@ walk-padding-at-requires : (t : ℕ) → walk-lts.Need-padding-at-requires (call
 walk-padding-at-requires t c κs = search needs
 
 walk-returns : (t : ℕ) → walk-lts.Need-returns (calls t) (walk-at t) walk.Post
-walk-returns t c = judges (c .padding-at .ensures ∙ records-none mmWave _ _ _ _ _ (c .before .if1 .taken))
+walk-returns t c = judges (c .padding-at .ensures ∙ records-none _ _ _ _ _ _ (c .before .if1 .taken))
 
 walk-record-at-requires : (t : ℕ) → walk-lts.Need-record-at-requires (calls t) (walk-at t) walk.Post
 walk-record-at-requires t c κs = search needs
@@ -55,18 +54,15 @@ walk-returns-2 t c =
     let r = c .before in let i1 = r .before in let start = i1 .before .before in
     let a = start .args in
     judges (halt _ _ _ _ (r .record-at .ensures) (c .match .keys2)
-    ∙ sym (ap (λ (p : Form). judgeAt p (a .at) (a .s .now)) (records-more mmWave _ _ _ (i1 .if1 .left))))
+    ∙ sym (ap (λ (p : Form). judgeAt p (a .at) (a .s .now)) (records-more (profileOf (a .d)) _ _ _ (i1 .if1 .left))))
 
 walk-sub-walk : (t : ℕ) → walk-lts.Need-sub-walk (calls t) (walk-at t) walk.Post
 walk-sub-walk t c = search needs
 
-walk-cast-walk : (t : ℕ) → walk-lts.Need-cast-walk (calls t) (walk-at t) walk.Post
-walk-cast-walk t c = search needs
-
 walk-sub-walk-2 : (t : ℕ) → walk-lts.Need-sub-walk-2 (calls t) (walk-at t) walk.Post
 walk-sub-walk-2 t c =
-    let a = c .before in let r = a .before .before in let i1 = r .before in
-    entry-fits mmWave mmWave-sound _ _ _ _ _ _ _ (i1 .if1 .left) (r .record-at .ensures) (a .a .given .1)
+    let a = c .before in let r = a .before .before in
+    entry-fits _ _ _ _ _ _ _ _ (r .record-at .ensures) (a .a .given .1)
 
 walk-walk-requires : (t : ℕ) → walk-lts.Need-walk-requires (calls t) (walk-at t) walk.Post
 walk-walk-requires t c κs =
@@ -79,7 +75,7 @@ walk-returns-3 t c =
     let start = i1 .before .before in
     let args = start .args in
     judges (c .walk .ensures .answers
-    ∙ sym (ap (λ (p : Form). judgeAt p (args .at) (args .s .now)) (records-more mmWave _ _ _ (i1 .if1 .left))
+    ∙ sym (ap (λ (p : Form). judgeAt p (args .at) (args .s .now)) (records-more (profileOf (args .d)) _ _ _ (i1 .if1 .left))
     ∙ go-on _ _ _ _ (r .record-at .ensures) (a .a .given .1)))
 
 pub +walk-spec : {M : Type 1} → statement M
@@ -92,7 +88,6 @@ pub +walk-spec : {M : Type 1} → statement M
     (walk-enum-known-a t)
     (walk-returns-2 t)
     (walk-sub-walk t)
-    (walk-cast-walk t)
     (walk-sub-walk-2 t)
     (walk-walk-requires t)
     (walk-returns-3 t)

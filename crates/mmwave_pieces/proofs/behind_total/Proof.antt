@@ -1,10 +1,7 @@
 -- Each field goes on from the end of the one before; a legal record count leaves room for the headers.
 use borrow.Author.Needs.{needs}
-use Rattle.mmwave.specs.MmWave.{mmWave}
 use Rattle.mmwave.proofs.RecordLaws.{count-leaves}
-use Rattle.mmwave.proofs.MmWaveSound.{mmWave-sound}
-use mathlib.Core.Path.{refl, sym, ap, _∙_}
-use native.Mathlib.Omega.{arith}
+use mathlib.Core.Path.{sym, _∙_}
 use Rattle.form.proofs.PieceLaws.{go-on, halt}
 use Rattle.mmwave.specs.Packet.{counted}
 use Rattle.mmwave_pieces.proofs.behind_total.Statement.{statement}
@@ -20,8 +17,8 @@ returns : tie.Need-returns
 unfolding counted
 returns c = halt _ _ _ _ (c .before .skip-numbers .ensures .answers) (c .match .keys2)
 
-number-requires : tie.Need-number-requires
-number-requires c κs = search needs
+checked-at-requires : tie.Need-checked-at-requires
+checked-at-requires c κs = search needs
 
 enum-known-b : tie.Need-enum-known-b
 enum-known-b c = search needs
@@ -29,26 +26,26 @@ enum-known-b c = search needs
 returns-2 : tie.Need-returns-2
 unfolding counted
 returns-2 c =
-    let n = c .before in let a = n .before .before in let s = a .before .before in
-    halt _ _ _ _ (n .number .ensures .answers) (c .match2 .keys2) ∙ sym (go-on _ _ _ _ (s .skip-numbers .ensures .answers) (a .a .given .1))
+    let o = c .before in let a = o .before .before in let s = a .before .before in
+    halt _ _ _ _ (o .checked-at .ensures) (c .match2 .keys2) ∙ sym (go-on _ _ _ _ (s .skip-numbers .ensures .answers) (a .a .given .1))
 
-count-at-requires : tie.Need-count-at-requires
-count-at-requires c κs = search needs
+checked-at-requires-2 : tie.Need-checked-at-requires-2
+checked-at-requires-2 c κs = search needs
 
-enum-known-d : tie.Need-enum-known-d
-enum-known-d c = search needs
+enum-known-m : tie.Need-enum-known-m
+enum-known-m c = search needs
 
 returns-3 : tie.Need-returns-3
 unfolding counted
 returns-3 c =
-    let k = c .before in let b = k .before .before in let n = b .before .before in
-    let a = n .before .before in let s = a .before .before in
-    halt _ _ _ _ (k .count-at .ensures) (c .match3 .keys2)
-    ∙ sym (go-on _ _ _ _ (n .number .ensures .answers) (b .b .given .1))
+    let k = c .before in let b = k .before .before in let o = b .before .before in
+    let a = o .before .before in let s = a .before .before in
+    halt _ _ _ _ (k .checked-at2 .ensures) (c .match3 .keys2)
+    ∙ sym (go-on _ _ _ _ (o .checked-at .ensures) (b .b .given .1))
     ∙ sym (go-on _ _ _ _ (s .skip-numbers .ensures .answers) (a .a .given .1))
 
-skip-numbers-requires-2 : tie.Need-skip-numbers-requires-2
-skip-numbers-requires-2 c κs = search needs
+checked-at-requires-3 : tie.Need-checked-at-requires-3
+checked-at-requires-3 c κs = search needs
 
 enum-known-f : tie.Need-enum-known-f
 enum-known-f c = search needs
@@ -56,11 +53,11 @@ enum-known-f c = search needs
 returns-4 : tie.Need-returns-4
 unfolding counted
 returns-4 c =
-    let s2 = c .before in let d = s2 .before .before in let k = d .before .before in let b = k .before .before in
-    let n = b .before .before in let a = n .before .before in let s = a .before .before in
-    halt _ _ _ _ (s2 .skip-numbers2 .ensures .answers) (c .match4 .keys2)
-    ∙ sym (go-on _ _ _ _ (k .count-at .ensures) (d .d .given .1))
-    ∙ sym (go-on _ _ _ _ (n .number .ensures .answers) (b .b .given .1))
+    let u = c .before in let m = u .before .before in let k = m .before .before in let b = k .before .before in
+    let o = b .before .before in let a = o .before .before in let s = a .before .before in
+    halt _ _ _ _ (u .checked-at3 .ensures) (c .match4 .keys2)
+    ∙ sym (go-on _ _ _ _ (k .checked-at2 .ensures) (m .m .given .1))
+    ∙ sym (go-on _ _ _ _ (o .checked-at .ensures) (b .b .given .1))
     ∙ sym (go-on _ _ _ _ (s .skip-numbers .ensures .answers) (a .a .given .1))
 
 cast-used : tie.Need-cast-used
@@ -74,8 +71,11 @@ add-used c = search needs
 
 sub-room : tie.Need-sub-room
 sub-room c =
-    let d = c .before .before .before .before .before in let a = d .before .before in
-    count-leaves mmWave mmWave-sound _ _ _ (a .count-at .ensures) (d .d .given .1)
+    let m = c .before .before .before .before .before in let a = m .before .before in
+    count-leaves _ _ _ _ (a .checked-at2 .ensures) (m .m .given .1)
+
+cast-walk : tie.Need-cast-walk
+cast-walk c = search needs
 
 walk-requires : tie.Need-walk-requires
 walk-requires c κs = search needs
@@ -83,13 +83,13 @@ walk-requires c κs = search needs
 returns-5 : tie.Need-returns-5
 unfolding counted
 returns-5 c =
-    let f = c .before .before in let s2 = f .before .before in let d = s2 .before .before in
-    let k = d .before .before in let b = k .before .before in let n = b .before .before in
-    let a = n .before .before in let s = a .before .before in
+    let f = c .before .before in let u = f .before .before in let m = u .before .before in
+    let k = m .before .before in let b = k .before .before in let o = b .before .before in
+    let a = o .before .before in let s = a .before .before in
     c .walk .ensures .answers
-    ∙ sym (go-on _ _ _ _ (s2 .skip-numbers2 .ensures .answers) (f .f .given .1))
-    ∙ sym (go-on _ _ _ _ (k .count-at .ensures) (d .d .given .1))
-    ∙ sym (go-on _ _ _ _ (n .number .ensures .answers) (b .b .given .1))
+    ∙ sym (go-on _ _ _ _ (u .checked-at3 .ensures) (f .f .given .1))
+    ∙ sym (go-on _ _ _ _ (k .checked-at2 .ensures) (m .m .given .1))
+    ∙ sym (go-on _ _ _ _ (o .checked-at .ensures) (b .b .given .1))
     ∙ sym (go-on _ _ _ _ (s .skip-numbers .ensures .answers) (a .a .given .1))
 
 pub behind-total-spec : {M : Type 1} → statement M
@@ -99,18 +99,19 @@ behind-total-spec =
     skip-numbers-requires
     enum-known-a
     returns
-    number-requires
+    checked-at-requires
     enum-known-b
     returns-2
-    count-at-requires
-    enum-known-d
+    checked-at-requires-2
+    enum-known-m
     returns-3
-    skip-numbers-requires-2
+    checked-at-requires-3
     enum-known-f
     returns-4
     cast-used
     mul-used
     add-used
     sub-room
+    cast-walk
     walk-requires
     returns-5)

@@ -1,8 +1,7 @@
 -- Each piece goes on from the end of the one before.
 use borrow.Author.Needs.{needs}
 use Rattle.form.proofs.PieceLaws.{go-on, halt, judges}
-use mathlib.Core.Path.{refl, sym, ap, _∙_}
-use native.Mathlib.Omega.{arith}
+use mathlib.Core.Path.{sym, _∙_}
 use Rattle.mmwave.specs.Packet.{packet}
 use Rattle.mmwave_pieces.proofs.judge_pieces.Statement.{statement}
 use Rattle.mmwave_pieces.proofs.judge_pieces.Tie as tie
@@ -27,20 +26,21 @@ returns-2 : tie.Need-returns-2
 unfolding packet
 returns-2 c =
     let s = c .before in let a = s .before .before in let m = a .before .before in
-    judges (halt _ _ _ _ (s .skip-numbers .ensures .answers) (c .match2 .keys2) ∙ sym (go-on _ _ _ _ (m .magic-at .ensures) (a .a .given .1)))
+    judges (halt _ _ _ _ (s .skip-numbers .ensures .answers) (c .match2 .keys2)
+    ∙ sym (go-on _ _ _ _ (m .magic-at .ensures) (a .a .given .1)))
 
-total-at-requires : tie.Need-total-at-requires
-total-at-requires c κs = search needs
+checked-at-requires : tie.Need-checked-at-requires
+checked-at-requires c κs = search needs
 
-enum-known-d : tie.Need-enum-known-d
-enum-known-d c = search needs
+enum-known-m : tie.Need-enum-known-m
+enum-known-m c = search needs
 
 returns-3 : tie.Need-returns-3
 unfolding packet
 returns-3 c =
-    let t0 = c .before in let b = t0 .before .before in let s = b .before .before in
+    let k = c .before in let b = k .before .before in let s = b .before .before in
     let a = s .before .before in let m = a .before .before in
-    judges (halt _ _ _ _ (t0 .total-at .ensures) (c .match3 .keys2)
+    judges (halt _ _ _ _ (k .checked-at .ensures) (c .match3 .keys2)
     ∙ sym (go-on _ _ _ _ (s .skip-numbers .ensures .answers) (b .b .given .1))
     ∙ sym (go-on _ _ _ _ (m .magic-at .ensures) (a .a .given .1)))
 
@@ -50,10 +50,10 @@ behind-total-requires c κs = search needs
 returns-4 : tie.Need-returns-4
 unfolding packet
 returns-4 c =
-    let d = c .before .before in let t0 = d .before .before in let b = t0 .before .before in
+    let n = c .before .before in let k = n .before .before in let b = k .before .before in
     let s = b .before .before in let a = s .before .before in let m = a .before .before in
     judges (c .behind-total .ensures
-    ∙ sym (go-on _ _ _ _ (t0 .total-at .ensures) (d .d .given .1))
+    ∙ sym (go-on _ _ _ _ (k .checked-at .ensures) (n .m .given .1))
     ∙ sym (go-on _ _ _ _ (s .skip-numbers .ensures .answers) (b .b .given .1))
     ∙ sym (go-on _ _ _ _ (m .magic-at .ensures) (a .a .given .1)))
 
@@ -67,8 +67,8 @@ judge-pieces-spec =
     skip-numbers-requires
     enum-known-b
     returns-2
-    total-at-requires
-    enum-known-d
+    checked-at-requires
+    enum-known-m
     returns-3
     behind-total-requires
     returns-4)

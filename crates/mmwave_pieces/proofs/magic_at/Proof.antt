@@ -1,9 +1,8 @@
 -- The invariant: the magic from the start is judged as what is left of it from here.
-use mathlib.Core.Path.{_≡_, refl, sym, ap, _∙_}
-use mathlib.Core.List.{List}
+use mathlib.Core.Path.{_≡_, refl, sym, _∙_}
 use Prim.Native.Nat.{_≤_, _-_}
 use native.Mathlib.Omega.{arith}
-use lib.ListN.{length, drop}
+use lib.ListN.{drop}
 use Rattle.form.specs.Form.{judgeAt}
 use Rattle.form.specs.Pieces.{marker}
 use Rattle.form.proofs.PieceLaws.{marker-hit, marker-miss, marker-ends, marker-over}

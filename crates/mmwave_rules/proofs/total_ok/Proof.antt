@@ -1,21 +1,38 @@
--- One test after another, as the definition has them.
-use borrow.Author.Tests.{eq-eqb, ne-eqb, le-leb, lt-leb}
-use Prim.Native.Nat.{_%_}
-use Rattle.mmwave.specs.MmWave.{mmWave, totalLegal}
+-- A multiple of 4, and then one arm for each dialect.
+use Rattle.mmwave.proofs.RuleLaws.{total-ragged, total-mmwave, total-vital}
+use borrow.Author.Needs.{needs}
 use Rattle.mmwave_rules.proofs.total_ok.Statement.{statement}
 use Rattle.mmwave_rules.proofs.total_ok.Tie as tie
 
 returns : tie.Need-returns
-unfolding mmWave totalLegal
-returns c = rw (ne-eqb (c .before .args .l % 32) 0 (c .if1 .taken))
+returns c = total-ragged _ _ (c .if1 .taken)
+
+enum-told : tie.Need-enum-told
+enum-told c = search needs
+
+mmwave-total-requires : tie.Need-mmwave-total-requires
+mmwave-total-requires c κs = search needs
+
+enum-told-2 : tie.Need-enum-told-2
+enum-told-2 c = search needs
+
+vital-total-requires : tie.Need-vital-total-requires
+vital-total-requires c κs = search needs
 
 returns-2 : tie.Need-returns-2
-unfolding mmWave totalLegal
-returns-2 c = let l = c .before .before .args .l in rw (eq-eqb (l % 32) 0 (c .before .if1 .left), lt-leb 64 l (c .if2 .taken))
+returns-2 c = total-mmwave (c .before .enum-told .given .1) _ (c .mmwave-total .ensures)
 
 returns-3 : tie.Need-returns-3
-unfolding mmWave totalLegal
-returns-3 c = let l = c .before .before .args .l in rw (eq-eqb (l % 32) 0 (c .before .if1 .left), le-leb 64 l (c .if2 .left))
+returns-3 c = total-vital (c .before .enum-told2 .given .1) _ (c .vital-total .ensures)
 
 pub total-ok-spec : {M : Type 1} → statement M
-total-ok-spec = tie.close (tie.spec returns returns-2 returns-3)
+total-ok-spec =
+    tie.close
+    (tie.spec
+    returns
+    enum-told
+    mmwave-total-requires
+    enum-told-2
+    vital-total-requires
+    returns-2
+    returns-3)

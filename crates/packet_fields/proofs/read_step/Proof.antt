@@ -1,5 +1,4 @@
 -- `packet_fields::read_step` meets its contract: 6 where no record starts there, else the record there.
-use Rattle.packet.proofs.Opened.{packet-walks}
 use Rattle.packet.proofs.FieldLaws.{step-nowhere, step-there, step-small}
 use borrow.Author.Needs.{needs}
 use Rattle.packet_fields.proofs.read_step.Statement.{statement}
@@ -9,7 +8,7 @@ word-at-requires : tie.Need-word-at-requires
 word-at-requires c κs = search needs
 
 starts-requires : tie.Need-starts-requires
-starts-requires c κs = rw (c .word-at .ensures) (packet-walks _ (c .before .before .pre))
+starts-requires c κs = rw (c .word-at .ensures) (c .before .before .pre)
 
 step-from-requires : tie.Need-step-from-requires
 step-from-requires c κs =

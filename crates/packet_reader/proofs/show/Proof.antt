@@ -1,6 +1,6 @@
--- `packet_reader::show` meets its contract: a walk of its code, by hand. The reader is taken apart, `record_at` is called on its slice, and
--- `part_of` on the slice and on the record;
--- the part that comes back and two numbers of the record are put together in the result's local.
+-- `packet_reader::show` meets its contract: a walk of its code, by hand. The reader is taken apart, `record_at` is called on its kind and
+-- its slice, and `part_of` on the slice and on the record; the part that comes back and two numbers of the record are put together in the
+-- result's local.
 -- The reader is Copy: before each call what it owns is had twice, and one copy is kept whole for the exit.
 use mathlib.Core.Path.{_≡_, refl, sym, ap, subst, _∙_}
 use Prim.Native.Nat.{ℕ, _<_, _^_}
@@ -46,7 +46,6 @@ use denote.Triple.Spec.{Meets, tripleOf}
 use denote.Triple.Table.{entered, cited}
 use denote.Triple.Walked.{says, Stays, stay-none, walkOf, goes-none, Walks, ends-at, walked, walk-meets}
 use denote.Exit.{yes}
-use Rattle.mmwave.specs.MmWave.{mmWave}
 use Rattle.packet.specs.Fields.{RecordShown}
 use Rattle.packet.specs.declared.PacketRecord.{PacketRecord}
 use Rattle.packet.proofs.PacketRecord as S
@@ -111,7 +110,7 @@ module _ {M : Type 1} (𝓤 : URA M) (H : Heap 𝓤) (A : Atoms 𝓤) (W : Given
 
   -- what the two calls say
   abbrev Shown : PacketRecord → Type 0
-  Shown r = RecordShown mmWave (now (d .bytes)) n r
+  Shown r = RecordShown (d .kind) (now (d .bytes)) n r
 
   abbrev IsPart : PacketRecord → RefT (List ℕ) → Type 0
   IsPart r y = now y ≡ partOf (now (d .bytes)) r
@@ -133,7 +132,7 @@ module _ {M : Type 1} (𝓤 : URA M) (H : Heap 𝓤) (A : Atoms 𝓤) (W : Given
   L = T′.the-laws α
 
   abbrev vd : Values (D .parts)
-  vd = (d .bytes, (d .at, tt))
+  vd = (d .bytes, (d .at, (d .kind, tt)))
 
   -- the lifetime's token
   abbrev token : Item 𝓤
@@ -144,31 +143,34 @@ module _ {M : Type 1} (𝓤 : URA M) (H : Heap 𝓤) (A : Atoms 𝓤) (W : Given
 
   -- the call of `record_at`: what it is passed, what it asks, and what it ensures of its answer
   abbrev passed₁ : Vals record-at.signature (κ, tt)
-  passed₁ = (v ∷ [], (vint w64 n ∷ [], tt))
+  passed₁ = (vint w32 (d .kind) ∷ [], (v ∷ [], (vint w64 n ∷ [], tt)))
 
   abbrev to₁ : RecordAt 𝓤 H A mem run .Ghost
-  to₁ = (((κ, tt), (q, tt), tt, (d .bytes, (n, tt)), passed₁), tt)
+  to₁ = (((κ, tt), (q, tt), tt, (d .kind, (d .bytes, (n, tt))), passed₁), tt)
 
   abbrev Asks₁ : SProp 𝓤
   Asks₁ = RecordAt 𝓤 H A mem run .pre to₁
 
   abbrev Ensures₁ : PacketRecord → SProp 𝓤
-  Ensures₁ r = ensured 𝓤 H A record-at.ended (record-at.clauses 𝓤 H A mem run) (κ, tt) (d .bytes, (n, tt)) tt r
+  Ensures₁ r = ensured 𝓤 H A record-at.ended (record-at.clauses 𝓤 H A mem run) (κ, tt) (d .kind, (d .bytes, (n, tt))) tt r
 
-  asked₁ : ent 𝓤 (onEntry 𝓤 H A record-at.signature (κ, tt) (q, tt) (d .bytes, (n, tt)) passed₁) Asks₁
-  asked₁ = qed W (token ∷ ‵ (owns (ShrSlice (named 0) κ u8 ∷ usize ∷ []) (d .bytes, (n, tt)) passed₁) ∷ []) ∵ join ! $ frame ! $ done !
+  asked₁ : ent 𝓤 (onEntry 𝓤 H A record-at.signature (κ, tt) (q, tt) (d .kind, (d .bytes, (n, tt))) passed₁) Asks₁
+  asked₁ =
+      qed W (token ∷ ‵ (owns (u32 ∷ ShrSlice (named 0) κ u8 ∷ usize ∷ []) (d .kind, (d .bytes, (n, tt))) passed₁) ∷ []) ∵
+      join ! $ frame ! $ done !
 
-  apart₁ : ent 𝓤 Entry (sep 𝓤 Asks₁ (sem 𝓤 H A Own))
-  apart₁ =
+  apart₁ : d .kind < 2 ^ 32 → ent 𝓤 Entry (sep 𝓤 Asks₁ (sem 𝓤 H A Own))
+  apart₁ kind-fits =
       qed W (token ∷ ‵ (owns (B (κ, tt) ∷ usize ∷ []) (d, (n, tt)) at) ∷ []) ∵
       move ! (1 ∷ []) $ fsplit ! $ move ! (1 ∷ []) $ drop ! $
       use1 W (‵ Own ⊛ ‵ Own) (LL.copy D (T′.the-copy α) 𝓤 H A W .twice d (mach ∷ [])) $ split ! $
       use1 W (given (mach ∷ [] ≡ mach ∷ []) (‵ (all-own (D .parts) L vd))) (own-open 𝓤 H A W D L vd mach) $
       learn ! (λ _. use1 W (‵ (ownAt (D .parts) L 0 (d .bytes)) ⊛ ‵ (rest (D .parts) L 0 vd)) (own-out 𝓤 H A W (D .parts) L 0 vd) $
       split ! $
-      -- [what the slice owns; what the offset owns; what the reader owns; the token]
+      -- [what the slice owns; what the numbers own; what the reader owns; the token]
       move ! (1 ∷ []) $ drop ! $ nothing ! $ owned ! usize (Is usize) (uint-makes 𝓤 H A W w64) n _ (refl, nok) $ fjoin ! $
       move ! (1 ∷ 0 ∷ []) $ fjoin ! $
+      owned ! u32 (Is u32) (uint-makes 𝓤 H A W w32) (d .kind) _ (refl, kind-fits) $ fjoin ! $
       move ! (2 ∷ 0 ∷ []) $ use2 W (raw Asks₁) asked₁ $ frame ! $ done !)
 
   -- the call of `part_of`, at the record r
@@ -196,13 +198,13 @@ module _ {M : Type 1} (𝓤 : URA M) (H : Heap 𝓤) (A : Atoms 𝓤) (W : Given
       use1 W (given (mach ∷ [] ≡ mach ∷ []) (‵ (all-own (D .parts) L vd))) (own-open 𝓤 H A W D L vd mach) $
       learn ! (λ _. use1 W (‵ (ownAt (D .parts) L 0 (d .bytes)) ⊛ ‵ (rest (D .parts) L 0 vd)) (own-out 𝓤 H A W (D .parts) L 0 vd) $
       split ! $
-      -- [what the slice owns; what the offset owns; what the reader owns; the token; what the record owns]
+      -- [what the slice owns; what the numbers own; what the reader owns; the token; what the record owns]
       move ! (1 ∷ []) $ drop ! $ move ! (3 ∷ []) $ nothing ! $ move ! (1 ∷ 0 ∷ []) $ fjoin ! $ move ! (1 ∷ 0 ∷ []) $ fjoin ! $
       move ! (2 ∷ 0 ∷ []) $ use2 W (raw (Asks₂ r)) (asked₂ r) $ frame ! $ done !)
 
   -- of what the callees ensure, the clauses alone
   said₁ : (r : PacketRecord) → ent 𝓤 (Ensures₁ r) (fact 𝓤 (Shown r))
-  said₁ r = exE 𝓤 _ (λ ws. snd∗ 𝓤 (sem 𝓤 H A (lasts record-at.ended (κ, tt) (d .bytes, (n, tt)) ws)) (fact 𝓤 (Shown r)))
+  said₁ r = exE 𝓤 _ (λ ws. snd∗ 𝓤 (sem 𝓤 H A (lasts record-at.ended (κ, tt) (d .kind, (d .bytes, (n, tt))) ws)) (fact 𝓤 (Shown r)))
 
   said₂ : (r : PacketRecord) (y : RefT (List ℕ)) → ent 𝓤 (Ensures₂ r y) (fact 𝓤 (IsPart r y))
   said₂ r y = exE 𝓤 _ (λ ws. snd∗ 𝓤 (sem 𝓤 H A (lasts part-of.ended (κ, tt) (d .bytes, (r, tt)) ws)) (fact 𝓤 (IsPart r y)))
@@ -255,45 +257,49 @@ module _ {M : Type 1} (𝓤 : URA M) (H : Heap 𝓤) (A : Atoms 𝓤) (W : Given
     walk : Holds (hasTy (T′.mir (named 0)) mach) × WT mach → ent 𝓤 Entry (WpFn 𝓤 H C Λ code.function (mach ∷ vint w64 n ∷ []) Post)
     walk wt =
         qed W (raw Entry ∷ []) ∵ enter ! C Λ code.function (mach ∷ vint w64 n ∷ []) _ $
-        alloc1 ! (λ l₀. alloc1 ! (λ l₁. alloc1 ! (λ l₂. alloc1 ! (λ l₃. alloc1 ! (λ l₄. alloc1 ! (λ l₅. alloc1 ! (λ l₆. alloc0 ! $
-        params1 ! $
-        pass1 ! (init ! 10 refl wt) $ pass1 ! (init ! 8 refl (tt, record { fits = nok })) $ pass0 ! $
-        assigns ! (of-opd ! (load ! (from ! (fld ! refl (stop !))) (look-in ! 10 (sub ! 0 refl (whole !))))) (from ! (stop !))
+        alloc1 ! (λ l₀. alloc1 ! (λ l₁. alloc1 ! (λ l₂. alloc1 ! (λ l₃. alloc1 ! (λ l₄. alloc1 ! (λ l₅. alloc1 ! (λ l₆. alloc1 ! (λ l₇.
+        alloc0 ! $ params1 ! $
+        pass1 ! (init ! 12 refl wt) $ pass1 ! (init ! 10 refl (tt, record { fits = nok })) $ pass0 ! $
+        assigns ! (of-opd ! (load ! (from ! (fld ! refl (stop !))) (look-in ! 12 (sub ! 2 refl (whole !))))) (from ! (stop !))
+        (init ! 6 refl (tt, wt .1 .1 .1 .0)) $
+        assigns ! (of-opd ! (load ! (from ! (fld ! refl (stop !))) (look-in ! 12 (sub ! 0 refl (whole !))))) (from ! (stop !))
         (init ! 4 refl (tt, wt .1 .0)) $
-        move ! (14 ∷ []) $ use1 W (raw Asks₁ ⊛ ‵ Own) apart₁ $ split ! $
-        calls-at ! fm (RecordAt 𝓤 H A mem run) known₁ to₁ (and-then ! (load ! (from ! (stop !)) (look ! 6 refl))
-        (and-then ! (load ! (from ! (stop !)) (look ! 10 refl)) (no-more !))) (λ u.
+        move ! (16 ∷ []) $ use1 W (raw Asks₁ ⊛ ‵ Own) (apart₁ (wt .1 .1 .1 .0 .fits)) $ split ! $
+        calls-at ! fm (RecordAt 𝓤 H A mem run) known₁ to₁ (and-then ! (load ! (from ! (stop !)) (look ! 8 refl))
+        (and-then ! (load ! (from ! (stop !)) (look ! 6 refl))
+        (and-then ! (load ! (from ! (stop !)) (look ! 12 refl)) (no-more !)))) (λ u.
         use1 W (later (some (λ (r : PacketRecord). (token ⊛ ‵ (S.the-row .own r (u ∷ []))) ⊛ raw (Ensures₁ r)))) (id⊢ 𝓤 _) $ await ! tt $
         pick ! (λ r.
         split ! $ move ! (1 ∷ []) $ use1 W (raw (fact 𝓤 (Shown r))) (said₁ r) $ heard ! (Shown r) (λ e. split ! $ move ! (1 ∷ []) $
-        -- [the record; the token; what the reader owns; _6; …; _5; …; _4; …; room for _3; …; _2; …; _1; …; room for _0; …]
+        -- [the record; the token; what the reader owns; _7; …; _6; …; _5; …; _4; …; room for _3; …; _2; …; _1; …; room for _0; …]
         peeks ! S.the-row (Is S.the-row) (shows 𝓤 H A S.the-row) r (u ∷ []) (λ is.
-        land ! (from ! (stop !)) (init ! 9 refl (LL.lawful S.the-type S′.the-laws 𝓤 H A W .typed r (u ∷ []) is .0)) $
-        rewrite ! 9 (λ (w : Val). ‵ (fat fullShare S′.mir l₃ 0 w)) (answers r u is) refl $
+        land ! (from ! (stop !)) (init ! 11 refl (LL.lawful S.the-type S′.the-laws 𝓤 H A W .typed r (u ∷ []) is .0)) $
+        rewrite ! 11 (λ (w : Val). ‵ (fat fullShare S′.mir l₃ 0 w)) (answers r u is) refl $
         rewrite ! 0 (λ (w : Val). ‵ (S.the-row .own r (w ∷ []))) (answers r u is) refl $
-        assigns ! (of-opd ! (load ! (from ! (fld ! refl (stop !))) (look-in ! 13 (sub ! 0 refl (whole !))))) (from ! (stop !))
+        assigns ! (of-opd ! (load ! (from ! (fld ! refl (stop !))) (look-in ! 15 (sub ! 0 refl (whole !))))) (from ! (stop !))
         (init ! 3 refl (tt, wt .1 .0)) $
         move ! (2 ∷ 1 ∷ 0 ∷ []) $ use3 W (raw (Asks₂ r) ⊛ ‵ Own) (apart₂ r) $ split ! $
         calls-at ! fm (PartOf 𝓤 H A mem run) known₂ (to₂ r) (and-then ! (load ! (from ! (stop !)) (look ! 2 refl))
-        (and-then ! (load ! (from ! (stop !)) (look ! 8 refl)) (no-more !))) (λ w.
+        (and-then ! (load ! (from ! (stop !)) (look ! 10 refl)) (no-more !))) (λ w.
         use1 W (later (some (λ (y : RefT (List ℕ)). (token ⊛ ‵ (R .own y (w ∷ []))) ⊛ raw (Ensures₂ r y)))) (id⊢ 𝓤 _) $ await ! tt $
         pick ! (λ y.
         split ! $ move ! (1 ∷ []) $ use1 W (raw (fact 𝓤 (IsPart r y))) (said₂ r y) $ heard ! (IsPart r y) (λ f. split ! $ move ! (1 ∷ []) $
-        -- [the part; the token; what the reader owns; _6; …; room for _5; …; _4; …; _3; …; _2; …; _1; …; room for _0; …]
+        -- [the part; the token; what the reader owns; _7; …; room for _6; …; _5; …; _4; …; _3; …; _2; …; _1; …; room for _0; …]
         peeks ! R (Is R) (shows 𝓤 H A R) y (w ∷ []) (λ is′.
         land ! (from ! (stop !)) (init ! 5 refl (shr-slice-lawful 𝓤 H A W erased κ u8 .typed y (w ∷ []) is′ .0)) $
         assigns ! (agg ! (and-then ! (load ! (from ! (stop !)) (look ! 5 refl))
-        (and-then ! (load ! (from ! (fld ! refl (stop !))) (look-in ! 9 (sub ! 0 refl (whole !))))
-        (and-then ! (load ! (from ! (fld ! refl (stop !))) (look-in ! 9 (sub ! 1 refl (whole !)))) (no-more !))))) (from ! (stop !))
-        (init ! 15 refl (
+        (and-then ! (load ! (from ! (fld ! refl (stop !))) (look-in ! 11 (sub ! 0 refl (whole !))))
+        (and-then ! (load ! (from ! (fld ! refl (stop !))) (look-in ! 11 (sub ! 1 refl (whole !)))) (no-more !))))) (from ! (stop !))
+        (init ! 17 refl (
           typed-at r y w (part-value y w is′),
           (shr-slice-lawful 𝓤 H A W erased κ u8 .typed y (w ∷ []) is′ .0 .1, (typed r u is .1 .0, (typed r u is .1 .1 .0, tt))),
         )) $
-        returns ! (look ! 15 refl) $ forget ! 3 refl $ forget ! 5 refl $ forget ! 7 refl $ forget ! 9 refl $ forget ! 11 refl $
-        forget ! 13 refl $ forget ! 15 refl $
-        move ! (15 ∷ 16 ∷ []) $ free1 ! $ move ! (13 ∷ 14 ∷ []) $ free1 ! $ move ! (11 ∷ 12 ∷ []) $ free1 ! $ move ! (9 ∷ 10 ∷ []) $
-        free1 ! $ move ! (7 ∷ 8 ∷ []) $ free1 ! $ move ! (5 ∷ 6 ∷ []) $ free1 ! $ move ! (3 ∷ 4 ∷ []) $ free1 ! $ free0 ! $
-        by ! (exits-at r y w (part-value y w is′) (typed r u is .1) e f))))))))))))))))
+        returns ! (look ! 17 refl) $ forget ! 3 refl $ forget ! 5 refl $ forget ! 7 refl $ forget ! 9 refl $ forget ! 11 refl $
+        forget ! 13 refl $ forget ! 15 refl $ forget ! 17 refl $
+        move ! (17 ∷ 18 ∷ []) $ free1 ! $ move ! (15 ∷ 16 ∷ []) $ free1 ! $ move ! (13 ∷ 14 ∷ []) $ free1 ! $ move ! (11 ∷ 12 ∷ []) $
+        free1 ! $ move ! (9 ∷ 10 ∷ []) $ free1 ! $ move ! (7 ∷ 8 ∷ []) $ free1 ! $ move ! (5 ∷ 6 ∷ []) $ free1 ! $
+        move ! (3 ∷ 4 ∷ []) $ free1 ! $ free0 ! $
+        by ! (exits-at r y w (part-value y w is′) (typed r u is .1) e f)))))))))))))))))
 
 module _ {M : Type 1} (𝓤 : URA M) (H : Heap 𝓤) (A : Atoms 𝓤) (W : Given 𝓤 H A) (mem : Memory → SProp 𝓤) (run : Routine → Fun 𝓤) where
   show-walks : (C : Calls 𝓤 H) (Λ : Loops 𝓤 H) → FmC 𝓤 H (W .laws) C → Triple 𝓤 (C #record-at) (RecordAt 𝓤 H A mem run)
