@@ -103,38 +103,85 @@ static void point(const char *what, struct vq_point p)
     printf("point %s: %" PRIu32 " %" PRId32 " %" PRId32 " %" PRId32 " %08" PRIX32 "\n", what, p.refusal, p.x, p.y, p.z, p.doppler);
 }
 
+static void header(const char *what, struct vq_header h)
+{
+    printf("header %s: %" PRIu32 " %08" PRIX32 " %" PRIu32 " %" PRIX32 " %" PRIu32 " %" PRIu32 " %" PRIu32 " %" PRIu32 " %" PRIu32 "\n", what, h.refusal, h.version, h.total, h.platform, h.frame, h.time, h.objects, h.records, h.subframe);
+}
+
 /* 96 bytes: a record of type 77 with three bytes, and two points behind it. */
 static void mmwave(void)
 {
-    static const uint32_t header[8] = {0x03060001, 96, 0xA6843, 7, 99, 2, 2, 3};
+    static const uint32_t numbers[8] = {0x03060001, 96, 0xA6843, 7, 99, 2, 2, 3};
     static const uint32_t first[2] = {77, 3};
     static const uint32_t points[8] = {1, 32, 0x3D800000, 0xBD800000, 0x447A0000, 0xFFFFFFFF, 0x3F800000, 0x447A0001};
     uint8_t packet[96] = {2, 1, 4, 3, 6, 5, 8, 7};
     for (int i = 0; i < 8; i++)
-        put(packet + 8 + 4 * i, header[i]);
+        put(packet + 8 + 4 * i, numbers[i]);
     for (int i = 0; i < 2; i++)
         put(packet + 40 + 4 * i, first[i]);
     for (int i = 0; i < 8; i++)
         put(packet + 51 + 4 * i, points[i]);
 
-    for (size_t count = 96; count > 94; count--) {
-        struct vq_header h = vq_header(packet, count);
-        printf("header of %zu bytes: %" PRIu32 " %08" PRIX32 " %" PRIu32 " %" PRIX32 " %" PRIu32 " %" PRIu32 " %" PRIu32 " %" PRIu32 " %" PRIu32 "\n", count, h.refusal, h.version, h.total, h.platform, h.frame, h.time, h.objects, h.records, h.subframe);
-    }
-    record("0", vq_record(packet, 96, 0));
-    record("1", vq_record(packet, 96, 1));
-    record("2", vq_record(packet, 96, 2));
-    record("0 of a cut packet", vq_record(packet, 95, 0));
-    step("at 40", vq_step(packet, 96, 40));
-    step("at 51", vq_step(packet, 96, 51));
-    step("at 91", vq_step(packet, 96, 91));
-    step("at 40 of a cut packet", vq_step(packet, 95, 40));
+    header("of 96 bytes", vq_header(16, packet, 96));
+    header("of 95 bytes", vq_header(16, packet, 95));
+    header("of kind 17", vq_header(17, packet, 96));
+    record("0", vq_record(16, packet, 96, 0));
+    record("1", vq_record(16, packet, 96, 1));
+    record("2", vq_record(16, packet, 96, 2));
+    record("0 of a cut packet", vq_record(16, packet, 95, 0));
+    step("at 40", vq_step(16, packet, 96, 40));
+    step("at 51", vq_step(16, packet, 96, 51));
+    step("at 91", vq_step(16, packet, 96, 91));
+    step("at 40 of a cut packet", vq_step(16, packet, 95, 40));
     point("0", vq_point(packet, 96, 0));
     point("1", vq_point(packet, 96, 1));
     point("2", vq_point(packet, 96, 2));
     packet[51] = 10;
     point("0 of a packet without points", vq_point(packet, 96, 0));
     point("0 of a cut packet", vq_point(packet, 95, 0));
+}
+
+/* 140 bytes: records of types 1, 2, 3 and 4 with 24, 8, 16 and 20 bytes; then 64 bytes that are a packet of both dialects. */
+static void vital_signs(void)
+{
+    static const uint32_t numbers[8] = {0x03050004, 140, 0xA1642, 7, 1234, 99, 4, 0};
+    static const uint32_t records[4][3] = {{40, 1, 24}, {72, 2, 8}, {88, 3, 16}, {112, 4, 20}};
+    static const uint32_t others[] = {0, 2, 15, 16, 18, 273, UINT32_MAX};
+    uint8_t packet[140] = {2, 1, 4, 3, 6, 5, 8, 7};
+    for (int i = 0; i < 8; i++)
+        put(packet + 8 + 4 * i, numbers[i]);
+    for (int i = 0; i < 4; i++)
+        put(packet + records[i][0], records[i][1]), put(packet + records[i][0] + 4, records[i][2]);
+
+    header("of vital signs", vq_header(17, packet, 140));
+    header("of 139 bytes of vital signs", vq_header(17, packet, 139));
+    for (size_t i = 0; i < 5; i++) {
+        char what[40];
+        snprintf(what, sizeof what, "%zu of vital signs", i);
+        record(what, vq_record(17, packet, 140, i));
+    }
+    step("at 40 of vital signs", vq_step(17, packet, 140, 40));
+    step("at 72 of vital signs", vq_step(17, packet, 140, 72));
+    step("at 112 of vital signs", vq_step(17, packet, 140, 112));
+    step("at 140 of vital signs", vq_step(17, packet, 140, 140));
+    step("at 48 of vital signs", vq_step(17, packet, 140, 48));
+    step("at 40 of cut vital signs", vq_step(17, packet, 139, 40));
+    point("0 of vital signs", vq_point(packet, 140, 0));
+    for (size_t i = 0; i < sizeof others / sizeof others[0]; i++) {
+        char what[40];
+        snprintf(what, sizeof what, "of kind %" PRIu32, others[i]);
+        header(what, vq_header(others[i], packet, 140));
+        record(what, vq_record(others[i], packet, 140, 4));
+        step(what, vq_step(others[i], packet, 140, 72));
+    }
+
+    put(packet + 12, 64), put(packet + 32, 1), put(packet + 40, 2), put(packet + 44, 16);
+    for (uint32_t kind = 16; kind < 18; kind++) {
+        header("of both kinds", vq_header(kind, packet, 64));
+        record("of both kinds", vq_record(kind, packet, 64, 0));
+        step("of both kinds", vq_step(kind, packet, 64, 40));
+    }
+    point("of both kinds", vq_point(packet, 64, 0));
 }
 
 static void command(const char *what, const uint8_t *bytes, size_t count)
@@ -181,6 +228,7 @@ int main(void)
     memset(output, 7, sizeof output);
     sirad();
     mmwave();
+    vital_signs();
     demorad();
     return 0;
 }

@@ -36,6 +36,55 @@ static void read_both(const char *what, uint32_t dialect, const void *bytes, siz
     }
 }
 
+/* A vital-signs packet of 64 bytes with one record of type 2, and what becomes of it with other bytes in its fields. */
+static void vital_signs(void)
+{
+    static const struct {
+        const char *what;
+        uint8_t total, fixed, records, subframe, type, length;
+    } cases[] = {
+        {"vital signs", 64, 99, 1, 0, 2, 16},
+        {"L 40", 40, 99, 0, 0, 2, 16},
+        {"L 36", 36, 99, 0, 0, 2, 16},
+        {"L 44", 44, 99, 0, 0, 2, 16},
+        {"L 62", 62, 99, 1, 0, 2, 16},
+        {"98", 64, 98, 0, 1, 2, 16},
+        {"no record", 64, 99, 0, 0, 2, 16},
+        {"no record, subframe 1", 64, 99, 0, 1, 2, 16},
+        {"a record in 40 bytes", 40, 99, 1, 0, 2, 16},
+        {"four records", 64, 99, 4, 0, 2, 16},
+        {"33 records", 64, 99, 33, 0, 2, 16},
+        {"three records", 64, 99, 3, 0, 2, 16},
+        {"subframe 1", 64, 99, 1, 1, 5, 16},
+        {"type 0", 64, 99, 1, 0, 0, 16},
+        {"type 1", 64, 99, 1, 0, 1, 16},
+        {"type 3", 64, 99, 1, 0, 3, 16},
+        {"type 4", 64, 99, 1, 0, 4, 16},
+        {"type 5", 64, 99, 1, 0, 5, 16},
+        {"length 12", 64, 99, 1, 0, 2, 12},
+        {"length 20", 64, 99, 1, 0, 2, 20},
+        {"two records, length 6", 64, 99, 2, 0, 2, 6},
+        {"type 3, length 0", 64, 99, 1, 0, 3, 0},
+    };
+    uint8_t packet[64] = {2, 1, 4, 3, 6, 5, 8, 7};
+    for (size_t i = 0; i < sizeof cases / sizeof cases[0]; i++) {
+        packet[12] = cases[i].total;
+        packet[28] = cases[i].fixed;
+        packet[32] = cases[i].records;
+        packet[36] = cases[i].subframe;
+        packet[40] = cases[i].type;
+        packet[44] = cases[i].length;
+        judge(cases[i].what, VQ_VITAL_SIGNS, packet, 64, 0);
+        if (i == 0) {
+            judge("vital signs as mmWave", VQ_MMWAVE, packet, 64, 0);
+            judge("vital signs, cut", VQ_VITAL_SIGNS, packet, 63, 0);
+            judge("vital signs, dialect 3", 3, packet, 64, 0);
+            read_both("vital signs", VQ_VITAL_SIGNS, packet, 64, 12);
+            read_both("vital signs as mmWave", VQ_MMWAVE, packet, 64, 12);
+        }
+    }
+}
+
 int main(void)
 {
     static const char capture[] = "!E0000\r\n !E00G0\r\n!E0001\r\n!E00";
@@ -50,7 +99,8 @@ int main(void)
     judge("beyond the end", 0, capture, 29, 30);
     judge("packet", 1, packet, 64, 0);
     judge("no magic", 1, packet, 64, 1);
-    judge("dialect 2", 2, packet, 64, 0);
+    judge("packet as vital signs", 2, packet, 64, 0);
+    judge("dialect 3", 3, packet, 64, 0);
     judge("nothing", 0, capture, 0, 0);
     memset(large, '!', sizeof large);
     judge("too many bytes", 0, large, sizeof large, 0);
@@ -68,7 +118,10 @@ int main(void)
     read_both("one row", 0, capture, 29, 5);
     read_both("no row", 0, capture, 29, 0);
     read_both("packet", 1, packet, 64, 12);
-    read_both("dialect 2", 2, packet, 64, 12);
+    read_both("packet as vital signs", 2, packet, 64, 12);
+    read_both("dialect 3", 3, packet, 64, 12);
     read_both("too many bytes", 0, large, sizeof large, 12);
+    read_both("too many bytes of vital signs", 2, large, sizeof large, 12);
+    vital_signs();
     return 0;
 }

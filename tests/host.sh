@@ -20,7 +20,7 @@ export VQ_LIB_DIR=$library
 cc "$built/gateway_demo.o" "$library/libvellanquor.a" -o "$built/gateway_demo" || exit 1
 for listing in captures/*.txt; do
   capture=${listing%.txt}.bin
-  case $capture in *mmwave*) dialect=mmwave ;; *) dialect=sirad ;; esac
-  "$built/gateway_demo" "$dialect" "$capture" | grep -v -e '^point ' -e '^a line ' | cmp - "$listing" ||
+  case $capture in *mmwave*) dialect=mmwave ;; *vital-signs*) dialect=vital-signs ;; *) dialect=sirad ;; esac
+  "$built/gateway_demo" "$dialect" "$capture" | grep -v -e '^point ' -e '^record' -e '^a line ' | cmp - "$listing" ||
     { echo "host: gateway_demo on $capture"; exit 1; }
 done

@@ -8,6 +8,7 @@ done
 python3 tests/listing.py
 for listing in captures/*.txt; do
   capture=${listing%.txt}.bin
-  case $capture in *mmwave*) program=packetlist ;; *) program=radarlist ;; esac
+  # No listing program reads vital signs: tests/host.sh has their rows.
+  case $capture in *mmwave*) program=packetlist ;; *vital-signs*) continue ;; *) program=radarlist ;; esac
   "target/bin/$program" <"$capture" | cmp - "$listing" || { echo "listing: $program on $capture"; exit 1; }
 done

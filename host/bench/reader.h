@@ -1,4 +1,4 @@
-/* A reader of both dialects in plain C, for the speed table. */
+/* A reader of the three dialects in plain C, for the speed table. */
 #ifndef READER_H
 #define READER_H
 

@@ -1,8 +1,8 @@
 /*
  * What the fare gateway's host does with a capture: reads a file, walks it with the closed reading, prints a row for each
- * frame, and turns the points of mmWave packets into millimetres.
+ * frame, turns the points of mmWave packets into millimetres, and names the records of vital-signs packets.
  *
- *   gateway_demo sirad|mmwave FILE
+ *   gateway_demo sirad|mmwave|vital-signs FILE
  *
  * Exit status 0 if the file was read, 1 if it was refused, 2 if there was nothing to read.
  */
@@ -33,6 +33,9 @@ static char letter_of(uint32_t kind)
 
     if (kind == VQ_KIND_PACKET) {
         return 'M';
+    }
+    if (kind == VQ_KIND_VITAL_SIGNS) {
+        return 'V';
     }
     return kind < sizeof letters - 1 ? letters[kind] : '?';
 }
@@ -84,6 +87,22 @@ static void print_points(const uint8_t *packet, size_t length)
     }
 }
 
+/* The records of a whole vital-signs packet, step by step: type and payload bytes (document 002, table 2). */
+static void print_records(const uint8_t *packet, size_t length)
+{
+    static const char *const names[] = {"?", "vital signs", "range profile", "ADC data", "system information"};
+    struct vq_step step = {0, 0, 0, 0, HEADER_SIZE};
+
+    for (;;) {
+        step = vq_step(VQ_KIND_VITAL_SIGNS, packet, length, (size_t)step.next);
+        if (step.refusal != 0) {
+            return;
+        }
+        printf("record\t%s\t%lu\n", names[step.tag < sizeof names / sizeof names[0] ? step.tag : 0],
+               (unsigned long)step.length);
+    }
+}
+
 /* All of the file, or a null pointer. One byte more than the limit is enough to be refused. */
 static uint8_t *read_file(const char *name, size_t *count)
 {
@@ -130,6 +149,8 @@ static int walk(uint32_t dialect, const uint8_t *bytes, size_t count)
             printf("%c\t%lu\t%lu\n", letter_of(numbers[2]), (unsigned long)place, (unsigned long)numbers[1]);
             if (numbers[2] == VQ_KIND_PACKET) {
                 print_points(bytes + place, numbers[1]);
+            } else if (numbers[2] == VQ_KIND_VITAL_SIGNS) {
+                print_records(bytes + place, numbers[1]);
             }
         }
         skipped += reading.skipped;
@@ -160,6 +181,18 @@ static void print_next(uint32_t dialect, const uint8_t *bytes, size_t count)
     }
 }
 
+/* The dialect of a name, or one that there is not. */
+static uint32_t dialect_of(const char *name)
+{
+    static const char *const names[] = {"sirad", "mmwave", "vital-signs"};
+    uint32_t dialect = VQ_SIRAD;
+
+    while (dialect <= VQ_VITAL_SIGNS && strcmp(name, names[dialect]) != 0) {
+        dialect++;
+    }
+    return dialect;
+}
+
 int main(int argc, char **argv)
 {
     uint32_t dialect;
@@ -167,11 +200,11 @@ int main(int argc, char **argv)
     size_t count = 0;
     int status;
 
-    if (argc != 3 || (strcmp(argv[1], "sirad") != 0 && strcmp(argv[1], "mmwave") != 0)) {
-        fprintf(stderr, "usage: gateway_demo sirad|mmwave FILE\n");
+    if (argc != 3 || dialect_of(argv[1]) > VQ_VITAL_SIGNS) {
+        fprintf(stderr, "usage: gateway_demo sirad|mmwave|vital-signs FILE\n");
         return 2;
     }
-    dialect = strcmp(argv[1], "sirad") == 0 ? VQ_SIRAD : VQ_MMWAVE;
+    dialect = dialect_of(argv[1]);
     bytes = read_file(argv[2], &count);
     if (bytes == NULL) {
         fprintf(stderr, "gateway_demo: can't read %s\n", argv[2]);

@@ -21,13 +21,13 @@ done
 RUSTFLAGS=$coverage cargo build --quiet --release --offline --target $target --target-dir target $features
 "$clang" -fsanitize=fuzzer target/$target/release/libradar_fuzz.a -lpthread -ldl -lm -o target/fuzz
 
-# The first inputs: captures of each family in both dialects, most of them short.
+# The first inputs: captures of each family in each dialect, most of them short.
 mkdir -p $corpus
 if [ -z "$(ls $corpus)" ]; then
   (cd ../rust && cargo build --quiet --release --offline --bin capture --target-dir ../fuzz/target/seeds)
-  dialects=(sirad mmwave)
+  dialects=(sirad mmwave vital-signs)
   lengths=(40 130 130 260 500)
-  for dialect in 0 1; do
+  for dialect in 0 1 2; do
     for family in clean noisy cut damaged hostile; do
       for seed in $(seq 1 40); do
         { printf "\\x0$dialect\\xff"

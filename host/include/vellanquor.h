@@ -1,10 +1,11 @@
 /*
  * The gateway's face: what the fare gateway's host, written in C, calls.
  *
- * It reads two dialects of radar bytes:
- *   0  SiRad    frames of printable bytes, kinds 1 to 6
- *   1  mmWave   packets of little-endian numbers, kind 16
- * and a third wire, DemoRad's command words.
+ * It reads three dialects of radar bytes:
+ *   0  SiRad        frames of printable bytes, kinds 1 to 6
+ *   1  mmWave       packets of little-endian numbers, kind 16
+ *   2  vital signs  packets with the same header and other rules, kind 17
+ * and a wire of its own, DemoRad's command words. The same bytes can be a packet of dialects 1 and 2.
  *
  * Each function tests what it is handed and answers bad input with a refusal number; nothing that the bytes hold stops or
  * harms it. Look at `refusal` first: it is 0 if there is an answer, and on a refusal every other number is 0 (but for
@@ -30,6 +31,7 @@ extern "C" {
 /* Dialects. */
 #define VQ_SIRAD 0u
 #define VQ_MMWAVE 1u
+#define VQ_VITAL_SIGNS 2u
 
 /* The most bytes that one call is lent. */
 #define VQ_MAX_BYTES 1048576u
@@ -38,13 +40,14 @@ extern "C" {
 #define VQ_ROW 3u
 
 /* Kinds. */
-#define VQ_KIND_RANGE 1u   /* SiRad R: magnitudes, 16 bytes and one for each data character */
-#define VQ_KIND_PHASE 2u   /* SiRad P: phases, likewise */
-#define VQ_KIND_CFAR 3u    /* SiRad C: CFAR output, likewise */
-#define VQ_KIND_TARGETS 4u /* SiRad T: sixteen targets, 230 bytes */
-#define VQ_KIND_STATUS 5u  /* SiRad U: status update, 26 bytes */
-#define VQ_KIND_ERROR 6u   /* SiRad E: error flags, 8 bytes */
-#define VQ_KIND_PACKET 16u /* mmWave packet, a multiple of 32 from 64 to 32768 bytes */
+#define VQ_KIND_RANGE 1u        /* SiRad R: magnitudes, 16 bytes and one for each data character */
+#define VQ_KIND_PHASE 2u        /* SiRad P: phases, likewise */
+#define VQ_KIND_CFAR 3u         /* SiRad C: CFAR output, likewise */
+#define VQ_KIND_TARGETS 4u      /* SiRad T: sixteen targets, 230 bytes */
+#define VQ_KIND_STATUS 5u       /* SiRad U: status update, 26 bytes */
+#define VQ_KIND_ERROR 6u        /* SiRad E: error flags, 8 bytes */
+#define VQ_KIND_PACKET 16u      /* mmWave packet, a multiple of 32 from 64 to 32768 bytes */
+#define VQ_KIND_VITAL_SIGNS 17u /* vital-signs packet, a multiple of 4 from 40 to 32768 bytes, not 44 */
 
 /* States of a judgement. A refusal has state 0, which is none of them. */
 #define VQ_WHOLE 1u   /* a frame stands at the place: kind and length are given */
@@ -58,12 +61,13 @@ extern "C" {
 #define VQ_BAD_CHARACTER 13u  /* not a character, a byte 34 to 254 */
 #define VQ_BAD_STOP 14u       /* wrong stop marker */
 
-/* Reasons of a bad mmWave place: the first field that fails. */
+/* Reasons of a bad mmWave or vital-signs place: the first field that fails. */
 #define VQ_BAD_MAGIC 20u  /* not the magic */
 #define VQ_BAD_TOTAL 21u  /* the total length is not legal */
-#define VQ_BAD_COUNT 22u  /* over 32 records, or more than fit, or none in a packet longer than 64 bytes */
+#define VQ_BAD_COUNT 22u  /* over 32 records, or more than fit, or none in a packet longer than 64 (vital signs: 40) bytes */
 #define VQ_BAD_TYPE 23u   /* no legal payload length of this type lets the records fit the total length */
 #define VQ_BAD_LENGTH 24u /* the payload length is not legal for its type, or the records don't fit with it */
+#define VQ_BAD_FIXED 26u  /* vital signs only: the number at 28 is not 99, or the subframe is not 0 */
 
 /* States of a reading. */
 #define VQ_STOPPED_WAITING 0u /* open reading only: the place `next` waits for more bytes */
@@ -71,7 +75,7 @@ extern "C" {
 #define VQ_AT_END 2u          /* closed reading only: everything is read */
 
 /* Refusals. */
-#define VQ_REFUSED_DIALECT 1u    /* a dialect other than 0 and 1 */
+#define VQ_REFUSED_DIALECT 1u    /* a dialect other than 0, 1 and 2 */
 #define VQ_REFUSED_PLACE 2u      /* an offset beyond the count; equal is fine */
 #define VQ_REFUSED_SIZE 3u       /* more than VQ_MAX_BYTES bytes */
 #define VQ_REFUSED_FRAME 5u      /* the bytes are not exactly one whole frame of the wanted kind */
@@ -96,7 +100,7 @@ extern "C" {
  *   refusal  0, or 1, 3, 2: the first of them in this order that applies
  *   state    VQ_WHOLE, VQ_BAD or VQ_WAITING; 0 with a refusal
  *   kind     of the frame, if whole; else 0
- *   reason   10 to 14 or 20 to 24, if bad; else 0
+ *   reason   10 to 14, 20 to 24 or 26, if bad; else 0
  *   length   of the frame, if whole; else 0
  * More bytes behind these never change a whole or a bad judgement. The place at the very end waits.
  */
@@ -234,7 +238,8 @@ struct vq_error_frame vq_read_error(const uint8_t *frame, size_t count);
 struct vq_written vq_write_error(uint8_t *output, size_t room, uint16_t flags);
 
 /*
- * The header of an mmWave packet.
+ * The header of a packet of the kind named, VQ_KIND_PACKET or VQ_KIND_VITAL_SIGNS; any other kind is refused with 5. In a
+ * vital-signs packet `objects` is 99 and `subframe` 0.
  *   refusal  0, or 5
  */
 struct vq_header {
@@ -249,10 +254,11 @@ struct vq_header {
     uint32_t subframe;
 };
 
-struct vq_header vq_header(const uint8_t *packet, size_t count);
+struct vq_header vq_header(uint32_t kind, const uint8_t *packet, size_t count);
 
 /*
- * Record `index` of a packet, counted from 0: its type (`tag`), and the part of the packet that is its payload.
+ * Record `index` of a packet of the kind named, counted from 0: its type (`tag`), and the part of the packet that is its
+ * payload.
  *   refusal  0, or 5, 6
  */
 struct vq_record {
@@ -262,10 +268,11 @@ struct vq_record {
     uint64_t length;
 };
 
-struct vq_record vq_record(const uint8_t *packet, size_t count, size_t index);
+struct vq_record vq_record(uint32_t kind, const uint8_t *packet, size_t count, size_t index);
 
 /*
- * The record that starts at `place`, and the place behind it. From 40 on, steps give record 0, 1, .. and then 6.
+ * The record of a packet of the kind named that starts at `place`, and the place behind it. From 40 on, steps give record
+ * 0, 1, .. and then 6.
  *   refusal  0, or 5, 6: then `next` is `place`
  */
 struct vq_step {
@@ -276,10 +283,11 @@ struct vq_step {
     uint64_t next;
 };
 
-struct vq_step vq_step(const uint8_t *packet, size_t count, size_t place);
+struct vq_step vq_step(uint32_t kind, const uint8_t *packet, size_t count, size_t place);
 
 /*
- * Point `index` of a packet's first record of type 1: X, Y and Z in millimetres, and the 32 bits of the Doppler velocity.
+ * Point `index` of an mmWave packet's first record of type 1: X, Y and Z in millimetres, and the 32 bits of the Doppler
+ * velocity.
  *   refusal  0, or 5, 7, 6, then 30 or 31 of the first coordinate that has one
  */
 struct vq_point {

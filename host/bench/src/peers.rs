@@ -5,8 +5,8 @@
 #[cfg(gateway_linked)]
 use radar_reference::abi::{Millimetres, Reading};
 use radar_reference::judgement::SIRAD;
-use radar_reference::mmwave::MAGIC;
 use radar_reference::numbers::millimetres;
+use radar_reference::packet_rules::MAGIC;
 use radar_reference::reading::{self, ROW};
 use radar_reference::sirad::START_MARKER;
 

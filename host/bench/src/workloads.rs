@@ -2,9 +2,9 @@
 
 use radar_reference::generate::floats::float_bits;
 use radar_reference::generate::random::Random;
-use radar_reference::generate::{mmwave, sirad};
-use radar_reference::judgement::{MMWAVE, SIRAD};
-use radar_reference::mmwave::MAGIC;
+use radar_reference::generate::{mmwave, sirad, vital_signs};
+use radar_reference::judgement::{MMWAVE, SIRAD, VITAL_SIGNS};
+use radar_reference::packet_rules::MAGIC;
 
 /// What a workload's bytes are for.
 #[derive(Clone, Copy, Debug, PartialEq, Eq)]
@@ -39,7 +39,7 @@ const fn read(name: &'static str, dialect: u32, make: fn(&mut Random, usize) -> 
 }
 
 /// All workloads, in the order of the tables.
-pub const WORKLOADS: [Workload; 19] = [
+pub const WORKLOADS: [Workload; 23] = [
     read("SiRad T, back to back", SIRAD, |random, size| repeat(size, || targets(random, DIGITS))),
     read("SiRad T, every digit 0", SIRAD, |random, size| repeat(size, || targets(random, b"0"))),
     read("SiRad R, n = 512", SIRAD, |random, size| repeat(size, || range(random, 512))),
@@ -61,6 +61,12 @@ pub const WORKLOADS: [Workload; 19] = [
     read("magics everywhere", MMWAVE, |_, size| repeat(size, || MAGIC.to_vec())),
     read("02 everywhere", MMWAVE, |_, size| vec![2; size]),
     read("32 records, last unfit", MMWAVE, |_, size| repeat(size, unfit_chain)),
+    read("vital signs, four types", VITAL_SIGNS, |random, size| repeat(size, || four_types(random))),
+    read("vital signs L = 40", VITAL_SIGNS, |_, size| repeat(size, || packet(40, 99, &[]))),
+    read("vital signs in noise", VITAL_SIGNS, |random, size| {
+        repeat(size, || with_noise(random, |random| vital_signs::packet(random, 600).expect("room for a packet")))
+    }),
+    read("vital signs, 32 records", VITAL_SIGNS, |_, size| repeat(size, unfit_vital_signs)),
     Workload {
         name: "coordinates to mm",
         task: Task::Convert,
@@ -177,11 +183,26 @@ fn coordinate(random: &mut Random) -> Vec<u8> {
     metres.to_bits().to_le_bytes().to_vec()
 }
 
-/// A header and a record of 40 bytes whose payload is the next header: each magic starts a chain of 32 records, of which
-/// the last ends 25 bytes too early.
-fn unfit_chain() -> Vec<u8> {
-    let mut bytes = header(1632, 0, 32);
-    bytes.extend(10u32.to_le_bytes());
+/// The vital signs, a range profile of 64 bins, 32 samples of each antenna, the system information.
+fn four_types(random: &mut Random) -> Vec<u8> {
+    let mut payload = |length: usize| (0..length).map(|_| random.byte()).collect();
+    packet(884, 99, &[(1, payload(24)), (2, payload(4 * 64)), (3, payload(16 * 32)), (4, payload(20))])
+}
+
+/// A header and a record of 40 bytes whose payload is the next header: each magic starts a chain of 32 records.
+fn chain(total: u32, objects: u32, record_type: u32) -> Vec<u8> {
+    let mut bytes = header(total, objects, 32);
+    bytes.extend(record_type.to_le_bytes());
     bytes.extend(40u32.to_le_bytes());
     bytes
+}
+
+/// The last record ends 25 bytes too early.
+fn unfit_chain() -> Vec<u8> {
+    chain(1632, 0, 10)
+}
+
+/// The last record ends 4 bytes too early.
+fn unfit_vital_signs() -> Vec<u8> {
+    chain(1580, 99, 2)
 }

@@ -11,9 +11,9 @@ use std::fmt;
 use crate::abi::{Judgement, Reading, Reference, Subject, BAD, WAITING, WHOLE};
 use crate::generate::floats::{float_bits, float_edges};
 use crate::generate::random::Random;
-use crate::generate::{capture, Family};
-use crate::judgement::{MMWAVE, SIRAD};
-use crate::mmwave::MAGIC;
+use crate::generate::{capture, mmwave, vital_signs, Family, DIALECT_NAMES};
+use crate::judgement::{DIALECTS, MMWAVE, SIRAD, VITAL_SIGNS};
+use crate::packet_rules::MAGIC;
 use crate::reading::{ROW, TABLE_FULL};
 use crate::refusal::MAX_BYTES;
 use crate::sirad::START_MARKER;
@@ -103,10 +103,11 @@ struct Sample {
 }
 
 impl Sample {
-    /// The sample of a seed: the dialect, the family and the length follow from it. Most are short.
+    /// The sample of a seed: the dialect, the family and the length follow from it. Most are short; some packets are lent to
+    /// the other packet dialect.
     fn new(seed: u64, lengths: &[usize]) -> Sample {
         let mut random = Random::new(seed ^ 0x5A5A_5A5A);
-        let dialect = random.pick(&[SIRAD, MMWAVE]);
+        let dialect = random.pick(&DIALECTS);
         let family = random.pick(&[
             Family::Clean,
             Family::Noisy,
@@ -117,11 +118,16 @@ impl Sample {
         ]);
         let longest = random.pick(lengths);
         let length = random.within(1, longest);
-        Sample::of(dialect, family, seed, length)
+        let sample = Sample::of(dialect, family, seed, length);
+        match dialect {
+            MMWAVE if random.once_in(8) => Sample { dialect: VITAL_SIGNS, ..sample },
+            VITAL_SIGNS if random.once_in(8) => Sample { dialect: MMWAVE, ..sample },
+            _ => sample,
+        }
     }
 
     fn of(dialect: u32, family: Family, seed: u64, length: usize) -> Sample {
-        let name = if dialect == SIRAD { "sirad" } else { "mmwave" };
+        let name = DIALECT_NAMES[dialect as usize];
         let origin = format!("seed {seed}: cargo run --bin capture -- {name} {} {seed} {length}", family.name());
         Sample { dialect, origin, bytes: capture(dialect, family, seed, length) }
     }
@@ -195,8 +201,8 @@ pub fn check_capture(subject: &dyn Subject, dialect: u32, bytes: &[u8]) -> Resul
 /// None, part of a row, a few, one row too few, exactly enough, more than enough.
 fn table_sizes(bytes: &[u8]) -> [usize; 8] {
     let all = ROW * (bytes.len() / 8 + 1);
-    let needed = [SIRAD, MMWAVE].map(|dialect| read(&Reference, dialect, bytes, all, true).0.rows as usize * ROW);
-    let needed = needed[0].max(needed[1]);
+    let needed = DIALECTS.map(|dialect| read(&Reference, dialect, bytes, all, true).0.rows as usize * ROW);
+    let needed = needed.into_iter().max().unwrap_or(0);
     [0, 2, 3, 5, needed.saturating_sub(1), needed, needed + 1, all]
 }
 
@@ -244,7 +250,7 @@ fn compare_refused_judgements(subject: &dyn Subject, tally: &mut Tally) -> Resul
     let whole = &long[..MAX_BYTES];
     let cases: [&[u8]; 5] = [b"", b"!", &long[..300], whole, &long];
     for bytes in cases {
-        for dialect in [0, 1, 2, 3, 16, 256, 1 << 31, u32::MAX] {
+        for dialect in [0, 1, 2, 3, 4, 16, 17, 256, 258, 1 << 31, u32::MAX] {
             for place in [0, 1, bytes.len(), bytes.len() + 1, usize::MAX] {
                 let answer = check_judgement(subject, dialect, bytes, place);
                 let answer = answer.map_err(|what| Difference {
@@ -264,8 +270,9 @@ fn long_line() -> Vec<u8> {
     let mut line = vec![b' '; MAX_BYTES + 1];
     line[..8].copy_from_slice(b"!E0000\r\n");
     let mut random = Random::new(3);
-    let packet = crate::generate::mmwave::packet(&mut random, 128).unwrap_or_default();
-    line[8..8 + packet.len()].copy_from_slice(&packet);
+    let packets = [mmwave::packet(&mut random, 128), vital_signs::packet(&mut random, 128)];
+    let packets = packets.into_iter().flatten().collect::<Vec<_>>().concat();
+    line[8..8 + packets.len()].copy_from_slice(&packets);
     line
 }
 
@@ -294,14 +301,14 @@ pub fn compare_readings(subject: &dyn Subject, first_seed: u64, at_least: u64) -
         done = compare(&sample, &[sizes[some], sizes[(some + 3) % 8], sizes[7]])?;
     }
     for (index, family) in (0..).zip(Family::ALL) {
-        for dialect in [SIRAD, MMWAVE] {
+        for dialect in DIALECTS {
             let sample = Sample::of(dialect, family, first_seed + index, MAX_BYTES);
             compare(&sample, &[300, ROW * MAX_BYTES / 8])?;
         }
     }
     let long = long_line();
     for length in [0, 300, MAX_BYTES, MAX_BYTES + 1] {
-        for dialect in [0, 1, 2, 16, 1 << 31, u32::MAX] {
+        for dialect in [0, 1, 2, 3, 16, 17, 1 << 31, u32::MAX] {
             let origin = "the refusals, on bytes without a seed".to_owned();
             let sample = Sample { dialect, origin, bytes: long[..length].to_vec() };
             compare(&sample, &[0, 2, 3, 30])?;

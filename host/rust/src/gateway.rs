@@ -19,9 +19,9 @@ extern "C" {
 }
 
 extern "C" {
-    fn vq_header(packet: *const u8, count: usize) -> Header;
-    fn vq_record(packet: *const u8, count: usize, index: usize) -> Record;
-    fn vq_step(packet: *const u8, count: usize, place: usize) -> Step;
+    fn vq_header(kind: u32, packet: *const u8, count: usize) -> Header;
+    fn vq_record(kind: u32, packet: *const u8, count: usize, index: usize) -> Record;
+    fn vq_step(kind: u32, packet: *const u8, count: usize, place: usize) -> Step;
     fn vq_point(packet: *const u8, count: usize, index: usize) -> Point;
     fn vq_read_command(bytes: *const u8, count: usize) -> Command;
     fn vq_write_command(output: *mut u8, room: usize, command: Command) -> Written;
@@ -72,16 +72,16 @@ impl Subject for Gateway {
 
 // SAFETY of each call: every pointer and length are those of a slice, of which the output is ours to write.
 impl FieldSubject for Gateway {
-    fn header(&self, packet: &[u8]) -> Header {
-        unsafe { vq_header(packet.as_ptr(), packet.len()) }
+    fn header(&self, kind: u32, packet: &[u8]) -> Header {
+        unsafe { vq_header(kind, packet.as_ptr(), packet.len()) }
     }
 
-    fn record(&self, packet: &[u8], index: usize) -> Record {
-        unsafe { vq_record(packet.as_ptr(), packet.len(), index) }
+    fn record(&self, kind: u32, packet: &[u8], index: usize) -> Record {
+        unsafe { vq_record(kind, packet.as_ptr(), packet.len(), index) }
     }
 
-    fn step(&self, packet: &[u8], place: usize) -> Step {
-        unsafe { vq_step(packet.as_ptr(), packet.len(), place) }
+    fn step(&self, kind: u32, packet: &[u8], place: usize) -> Step {
+        unsafe { vq_step(kind, packet.as_ptr(), packet.len(), place) }
     }
 
     fn point(&self, packet: &[u8], index: usize) -> Point {

@@ -1,12 +1,16 @@
 //! The judgement on the bytes from a place (paper 01, "Judging a place").
 
 use crate::refusal::{Refusal, MAX_BYTES, PLACE_BEYOND_LENGTH, TOO_MANY_BYTES, UNKNOWN_DIALECT};
-use crate::{mmwave, sirad};
+use crate::{mmwave, sirad, vital_signs};
 
 /// Dialect 0: SiRad.
 pub const SIRAD: u32 = 0;
 /// Dialect 1: mmWave.
 pub const MMWAVE: u32 = 1;
+/// Dialect 2: vital signs.
+pub const VITAL_SIGNS: u32 = 2;
+/// All dialects.
+pub const DIALECTS: [u32; 3] = [SIRAD, MMWAVE, VITAL_SIGNS];
 
 /// 10: no start marker.
 pub const NO_START_MARKER: u32 = 10;
@@ -22,26 +26,28 @@ pub const WRONG_STOP_MARKER: u32 = 14;
 pub const WRONG_MAGIC: u32 = 20;
 /// 21: the total length L is not legal.
 pub const ILLEGAL_TOTAL_LENGTH: u32 = 21;
-/// 22: K over 32, or 8K over L - 40, or K = 0 with L not 64.
+/// 22: K over 32, or 8K over L - 40, or K = 0 with L not 64 (mmWave), not 40 (vital signs).
 pub const ILLEGAL_RECORD_COUNT: u32 = 22;
 /// 23: seen at a type: no legal payload length of this type lets the K records end so that L fits.
 pub const TYPE_CANNOT_FIT: u32 = 23;
 /// 24: seen at a length: not legal for the type, or the same lack of fit.
 pub const ILLEGAL_PAYLOAD_LENGTH: u32 = 24;
+/// 26: "a wrong 99 or subframe, at its own field", of a vital-signs packet.
+pub const WRONG_FIXED_FIELD: u32 = 26;
 
 /// "A judgement on the bytes from a place is one of three."
 #[derive(Clone, Copy, Debug, PartialEq, Eq)]
 pub enum Judgement {
     /// A frame stands at the place.
     Whole {
-        /// 1 to 6 for SiRad, 16 for mmWave.
+        /// 1 to 6 for SiRad, 16 for mmWave, 17 for vital signs.
         kind: u32,
         /// The frame's bytes.
         length: usize,
     },
     /// No frame stands there, whatever bytes follow.
     Bad {
-        /// 10 to 14 for SiRad, 20 to 24 for mmWave: the first check that fails.
+        /// 10 to 14 for SiRad, 20 to 24 for mmWave, these and 26 for vital signs: the first check that fails.
         reason: u32,
     },
     /// No check has failed and the frame is not all there.
@@ -68,7 +74,7 @@ pub fn judge(dialect: u32, bytes: &[u8], place: usize) -> Result<Judgement, Refu
 
 /// The refusals that the judgement and the readings share: 1, then 3.
 pub(crate) fn test_lent(dialect: u32, bytes: &[u8]) -> Result<(), Refusal> {
-    if dialect != SIRAD && dialect != MMWAVE {
+    if !DIALECTS.contains(&dialect) {
         return Err(UNKNOWN_DIALECT);
     }
     if bytes.len() > MAX_BYTES {
@@ -79,10 +85,10 @@ pub(crate) fn test_lent(dialect: u32, bytes: &[u8]) -> Result<(), Refusal> {
 
 /// The judgement at the front of `bytes`, for a dialect already tested.
 pub(crate) fn judge_front(dialect: u32, bytes: &[u8]) -> Judgement {
-    if dialect == SIRAD {
-        sirad::judge(bytes)
-    } else {
-        mmwave::judge(bytes)
+    match dialect {
+        SIRAD => sirad::judge(bytes),
+        MMWAVE => mmwave::judge(bytes),
+        _ => vital_signs::judge(bytes),
     }
 }
 
@@ -93,18 +99,20 @@ mod tests {
     #[test]
     fn refusals_come_in_the_order_1_3_2() {
         let long = vec![0u8; MAX_BYTES + 1];
-        assert_eq!(judge(2, &long, MAX_BYTES + 2), Err(UNKNOWN_DIALECT));
+        assert_eq!(judge(3, &long, MAX_BYTES + 2), Err(UNKNOWN_DIALECT));
         assert_eq!(judge(0, &long, MAX_BYTES + 2), Err(TOO_MANY_BYTES));
         assert_eq!(judge(0, &long, 0), Err(TOO_MANY_BYTES));
+        assert_eq!(judge(2, &long, MAX_BYTES + 2), Err(TOO_MANY_BYTES));
         assert_eq!(judge(1, &long[1..], MAX_BYTES + 1), Err(PLACE_BEYOND_LENGTH));
         assert_eq!(judge(u32::MAX, b"", 1), Err(UNKNOWN_DIALECT));
         assert_eq!(judge(1, b"", 1), Err(PLACE_BEYOND_LENGTH));
         assert_eq!(judge(1, b"", usize::MAX), Err(PLACE_BEYOND_LENGTH));
+        assert_eq!(judge(2, b"", 1), Err(PLACE_BEYOND_LENGTH));
     }
 
     #[test]
     fn the_place_at_the_very_end_waits() {
-        for dialect in [SIRAD, MMWAVE] {
+        for dialect in DIALECTS {
             assert_eq!(judge(dialect, b"", 0), Ok(Judgement::Waiting));
             assert_eq!(judge(dialect, b"abc", 3), Ok(Judgement::Waiting));
             assert_eq!(judge(dialect, &vec![0u8; MAX_BYTES], MAX_BYTES), Ok(Judgement::Waiting));

@@ -1,11 +1,13 @@
-//! A plain reader of the three radar wires, written from paper 01 ("What gets built and its exact rules") and the
-//! makers' documents 000, 001, 003 and 004 alone. It is slow where slow is clearer, and it exists to be compared with.
+//! A plain reader of the radar wires, written from paper 01 ("What gets built and its exact rules"), paper 02 (i) and the
+//! makers' documents 000 to 004 alone. It is slow where slow is clearer, and it exists to be compared with.
 //!
-//! | Module | What it holds | Paper 01 |
+//! | Module | What it holds | Paper 01; paper 02 |
 //! |---|---|---|
 //! | [`refusal`] | the refusal numbers and the size limits | "Refusal numbers" |
-//! | [`judgement`] | whole, bad or waiting, for either dialect | "Judging a place" |
-//! | [`sirad`], [`mmwave`] | the judgement of each dialect | "The three wires" |
+//! | [`judgement`] | whole, bad or waiting, for each dialect | "Judging a place" |
+//! | [`sirad`] | the judgement of SiRad frames | "The three wires" |
+//! | [`packet_rules`] | the judgement of packets, by the rules of a dialect | "The three wires" |
+//! | [`mmwave`], [`vital_signs`] | the rules of each packet dialect | "The three wires"; (i) |
 //! | [`reading`] | the open and the closed reading, the choice of two lines | "Two readings" |
 //! | [`numbers`] | dB, phase, accuracy, millimetres | "Numbers" |
 //! | [`sirad_fields`], [`packet`] | what a whole frame holds, and SiRad writing | "Fields" |
@@ -30,7 +32,9 @@ pub mod listing;
 pub mod mmwave;
 pub mod numbers;
 pub mod packet;
+pub mod packet_rules;
 pub mod reading;
 pub mod refusal;
 pub mod sirad;
 pub mod sirad_fields;
+pub mod vital_signs;

@@ -1,157 +1,40 @@
-//! The judgement of mmWave packets (paper 01, "The three wires" and "Judging a place"; document 004).
-//!
-//! "Numbers are least significant byte first." The magic is judged byte by byte; "a four-byte field is judged when its
-//! fourth byte is there, and until then it waits".
+//! The rules of mmWave packets (paper 01, "The three wires" and "Judging a place"; document 004). The header's places and
+//! the walk are in [`crate::packet_rules`].
 
-use crate::judgement::{
-    Judgement, ILLEGAL_PAYLOAD_LENGTH, ILLEGAL_RECORD_COUNT, ILLEGAL_TOTAL_LENGTH, TYPE_CANNOT_FIT, WRONG_MAGIC,
-};
+use crate::judgement::Judgement;
+use crate::packet_rules::{Lengths, Rules, MAX_RECORDS, MAX_TOTAL};
 
 /// Kind 16: a packet.
 pub const PACKET: u32 = 16;
-/// The eight bytes that start each packet.
-pub const MAGIC: [u8; 8] = [2, 1, 4, 3, 6, 5, 8, 7];
-/// Where the version stands.
-pub const VERSION: usize = 8;
-/// Where the total length L stands.
-pub const TOTAL_LENGTH: usize = 12;
-/// Where the platform stands.
-pub const PLATFORM: usize = 16;
-/// Where the frame number stands.
-pub const FRAME_NUMBER: usize = 20;
-/// Where the time in CPU cycles stands.
-pub const TIME: usize = 24;
-/// Where the object count N stands.
-pub const OBJECT_COUNT: usize = 28;
-/// Where the record count K stands.
-pub const RECORD_COUNT: usize = 32;
-/// Where the subframe number stands.
-pub const SUBFRAME: usize = 36;
-/// The header's bytes: its fields add up to 40, and "40 decides" over 004's "44 Bytes".
-pub const HEADER_SIZE: usize = 40;
-/// A record's bytes in front of its payload: type (4) and payload length (4).
-pub const RECORD_HEADER: u64 = 8;
 /// L is a multiple of this.
 pub const PADDING: u64 = 32;
 /// The least L.
 pub const MIN_TOTAL: u64 = 64;
-/// The greatest L.
-pub const MAX_TOTAL: u64 = 32_768;
-/// The greatest K.
-pub const MAX_RECORDS: u64 = 32;
 
 /// The type of the record that holds the detected points.
 pub const POINTS: u32 = 1;
 /// The bytes of a point.
 pub const POINT_SIZE: u64 = 16;
 
+/// "L is a multiple of 32 from 64 to 32,768; K is at most 32. .. L is the smallest multiple of 32 not below e."
+pub const RULES: Rules = Rules {
+    kind: PACKET,
+    is_legal_total,
+    empty_total: MIN_TOTAL,
+    most_records: MAX_RECORDS,
+    fixed: &[],
+    block: PADDING,
+    lengths: legal_lengths,
+};
+
 /// Judges the packet at the front of `bytes`.
 pub fn judge(bytes: &[u8]) -> Judgement {
-    match packet(bytes) {
-        Ok(length) => Judgement::Whole { kind: PACKET, length },
-        Err(stopped) => stopped,
-    }
-}
-
-/// The checks in byte order; a check that can't go on answers with the judgement.
-fn packet(bytes: &[u8]) -> Result<usize, Judgement> {
-    magic(bytes)?;
-    field(bytes, VERSION)?;
-    let total = field(bytes, TOTAL_LENGTH)?;
-    check(is_legal_total(total), ILLEGAL_TOTAL_LENGTH)?;
-    field(bytes, PLATFORM)?;
-    field(bytes, FRAME_NUMBER)?;
-    field(bytes, TIME)?;
-    let objects = field(bytes, OBJECT_COUNT)?;
-    let records = field(bytes, RECORD_COUNT)?;
-    check(is_legal_count(records, total), ILLEGAL_RECORD_COUNT)?;
-    field(bytes, SUBFRAME)?;
-    let mut place = HEADER_SIZE as u64;
-    for behind in (0..records).rev() {
-        let legal = legal_lengths(field(bytes, place as usize)? as u32, objects);
-        check(some_length_fits(legal, place, behind, total), TYPE_CANNOT_FIT)?;
-        let length = field(bytes, place as usize + 4)?;
-        let end = place + RECORD_HEADER + length;
-        check(legal.allow(length) && can_end(end, behind, total), ILLEGAL_PAYLOAD_LENGTH)?;
-        place = end;
-    }
-    // The padding is free, but it has to be there.
-    if (bytes.len() as u64) < total {
-        return Err(Judgement::Waiting);
-    }
-    Ok(total as usize)
-}
-
-fn check(holds: bool, reason: u32) -> Result<(), Judgement> {
-    if holds {
-        Ok(())
-    } else {
-        Err(Judgement::Bad { reason })
-    }
-}
-
-fn magic(bytes: &[u8]) -> Result<(), Judgement> {
-    for (place, expected) in MAGIC.iter().enumerate() {
-        let byte = bytes.get(place).ok_or(Judgement::Waiting)?;
-        check(byte == expected, WRONG_MAGIC)?;
-    }
-    Ok(())
-}
-
-/// The four-byte field at `place`; waits unless all its bytes are there.
-fn field(bytes: &[u8], place: usize) -> Result<u64, Judgement> {
-    match bytes.get(place..place + 4) {
-        Some(field) => Ok(u64::from(number(field))),
-        None => Err(Judgement::Waiting),
-    }
-}
-
-/// A number, least significant byte first.
-pub fn number(bytes: &[u8]) -> u32 {
-    bytes.iter().rev().fold(0, |value, &byte| value << 8 | u32::from(byte))
+    RULES.judge(bytes)
 }
 
 /// "L is a multiple of 32 from 64 to 32,768."
 pub fn is_legal_total(total: u64) -> bool {
     total.is_multiple_of(PADDING) && (MIN_TOTAL..=MAX_TOTAL).contains(&total)
-}
-
-/// Reason 22's rule, the other way round: K is at most 32, the K record headers have room, and K = 0 has L = 64.
-pub fn is_legal_count(records: u64, total: u64) -> bool {
-    records <= MAX_RECORDS
-        && RECORD_HEADER * records <= total - HEADER_SIZE as u64
-        && (records > 0 || total == MIN_TOTAL)
-}
-
-/// The payload lengths that are legal for a record's type, given the object count.
-#[derive(Clone, Copy, Debug, PartialEq, Eq)]
-pub enum Lengths {
-    /// None at all: types 1 and 7 without objects.
-    None,
-    /// This one alone.
-    Only(u64),
-    /// All multiples of this, 0 among them.
-    MultiplesOf(u64),
-}
-
-impl Lengths {
-    /// Whether `length` is among them.
-    pub fn allow(self, length: u64) -> bool {
-        match self {
-            Lengths::None => false,
-            Lengths::Only(only) => length == only,
-            Lengths::MultiplesOf(step) => length.is_multiple_of(step),
-        }
-    }
-
-    /// The greatest of them that is at most `room`.
-    pub fn greatest_within(self, room: u64) -> Option<u64> {
-        match self {
-            Lengths::None => None,
-            Lengths::Only(only) => (only <= room).then_some(only),
-            Lengths::MultiplesOf(step) => Some(room - room % step),
-        }
-    }
 }
 
 /// "Type 1 is 16N and N is not 0; type 7 is 4N and N is not 0; 2, 3, 5 even; 4, 8 a multiple of 4; 6 is 24; 9 is 28; all
@@ -169,31 +52,10 @@ pub fn legal_lengths(record_type: u32, objects: u64) -> Lengths {
     }
 }
 
-/// Whether the records can end so that L fits, if one ends at `end` and `behind` more follow: "L is the smallest multiple
-/// of 32 not below e". The records that follow have any type, so each adds 8 bytes or any number more.
-pub fn can_end(end: u64, behind: u64, total: u64) -> bool {
-    if behind == 0 {
-        end <= total && total < end + PADDING
-    } else {
-        end + RECORD_HEADER * behind <= total
-    }
-}
-
-/// Whether some legal payload length of a record at `place` lets the records end so that L fits. The greatest that
-/// leaves room for the record headers behind it does so if any does.
-pub fn some_length_fits(legal: Lengths, place: u64, behind: u64, total: u64) -> bool {
-    let Some(room) = total.checked_sub(place + RECORD_HEADER * (1 + behind)) else {
-        return false;
-    };
-    match legal.greatest_within(room) {
-        Some(length) => can_end(place + RECORD_HEADER + length, behind, total),
-        None => false,
-    }
-}
-
 #[cfg(test)]
 mod tests {
     use super::*;
+    use crate::packet_rules::{HEADER_SIZE, MAGIC};
 
     fn header(total: u32, objects: u32, records: u32) -> Vec<u8> {
         let mut bytes = MAGIC.to_vec();
@@ -400,7 +262,7 @@ mod tests {
                         for record_type in 0..=10 {
                             let legal = legal_lengths(record_type, objects);
                             assert_eq!(
-                                some_length_fits(legal, place, behind, total),
+                                RULES.some_length_fits(legal, place, behind, total),
                                 fits_by_trying(record_type, objects, place, behind, total),
                                 "type {record_type}, N {objects}, place {place}, {behind} behind, L {total}"
                             );

@@ -5,7 +5,7 @@
 /// A number from the paper's list.
 pub type Refusal = u32;
 
-/// 1: a dialect other than 0 and 1.
+/// 1: a dialect other than 0, 1 and 2.
 pub const UNKNOWN_DIALECT: Refusal = 1;
 /// 2: a place beyond the length; equal is fine.
 pub const PLACE_BEYOND_LENGTH: Refusal = 2;

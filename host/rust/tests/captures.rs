@@ -3,10 +3,10 @@
 use std::fs;
 use std::path::PathBuf;
 
-use radar_reference::generate::{capture, points, Family, LISTING_EXAMPLE};
-use radar_reference::judgement::{MMWAVE, SIRAD};
+use radar_reference::generate::{capture, monitor, points, Family, LISTING_EXAMPLE};
+use radar_reference::judgement::{judge, Judgement, MMWAVE, SIRAD, VITAL_SIGNS};
 use radar_reference::listing::listing;
-use radar_reference::packet::{point, Point};
+use radar_reference::packet::{point, record, Point};
 use radar_reference::reading::{closed_reading, open_reading, ROW};
 
 /// Where the captures are, from this package.
@@ -69,4 +69,47 @@ fn mmwave_hostile_waits_in_the_middle() {
     let open = open_reading(MMWAVE, &made, &mut table).unwrap();
     let closed = closed_reading(MMWAVE, &made, &mut table).unwrap();
     assert!(open.next < 1000 && open.rows < closed.rows);
+}
+
+#[test]
+fn a_vital_signs_monitor_sends_all_four_types() {
+    let made = monitor(14, 9);
+    check("vital-signs-monitor", VITAL_SIGNS, &made);
+    let mut table = [0; ROW * 9];
+    let reading = closed_reading(VITAL_SIGNS, &made, &mut table).unwrap();
+    let mut types = [0; 5];
+    for row in table.chunks_exact(ROW).take(reading.rows) {
+        let packet = &made[row[0] as usize..][..row[1] as usize];
+        (0..)
+            .map_while(|index| record(17, packet, index).ok())
+            .for_each(|record| types[record.record_type as usize] += 1);
+    }
+    assert!(types[1..].iter().all(|&count| count > 1), "{types:?}");
+    // Three are damaged at a fixed field or the count, and two false starts break off.
+    let reasons = (0..made.len()).filter_map(|place| match judge(VITAL_SIGNS, &made, place) {
+        Ok(Judgement::Bad { reason }) if reason > 20 => Some(reason),
+        _ => None,
+    });
+    let reasons: Vec<u32> = reasons.collect();
+    assert_eq!((reading.rows, reasons.len()), (6, 5), "{reasons:?}");
+    assert!(reasons.contains(&22) && reasons.contains(&26), "{reasons:?}");
+}
+
+#[test]
+fn vital_signs_hostile_waits_in_the_middle() {
+    let made = capture(VITAL_SIGNS, Family::Hostile, 19, 3000);
+    check("vital-signs-hostile", VITAL_SIGNS, &made);
+    let mut table = [0; 300];
+    let open = open_reading(VITAL_SIGNS, &made, &mut table).unwrap();
+    let closed = closed_reading(VITAL_SIGNS, &made, &mut table).unwrap();
+    assert!(open.next < 1000 && open.rows < closed.rows);
+    let mut reasons: Vec<u32> = (0..made.len())
+        .filter_map(|place| match judge(VITAL_SIGNS, &made, place) {
+            Ok(Judgement::Bad { reason }) => Some(reason),
+            _ => None,
+        })
+        .collect();
+    reasons.sort_unstable();
+    reasons.dedup();
+    assert_eq!(reasons, [20, 21, 22, 23, 24, 26]);
 }

@@ -7,7 +7,10 @@ use radar_reference::abi::{Judgement, Millimetres, Reading, Reference, Subject, 
 use radar_reference::compare::{
     check_capture, compare_judgements, compare_millimetres, compare_readings, compare_splits, Difference, Tally,
 };
+use radar_reference::judgement;
+use radar_reference::packet_rules::{Lengths, Rules};
 use radar_reference::reading::ROW;
+use radar_reference::{mmwave, vital_signs};
 
 const JUDGEMENTS: u64 = 1_000_000;
 const READINGS: u64 = 12_000;
@@ -26,10 +29,11 @@ fn agreed<T>(outcome: Result<T, Difference>) -> T {
 /// Every kind and reason came often enough to count, and every refusal came.
 fn assert_all_judgements_seen(tally: &Tally) {
     assert!(tally.total >= JUDGEMENTS);
-    for answer in ["whole 1", "whole 2", "whole 3", "whole 4", "whole 5", "whole 6", "whole 16", "waiting"] {
-        assert!(tally.of(answer) >= 300, "{answer} in {tally}");
+    for kind in [1, 2, 3, 4, 5, 6, 16, 17] {
+        assert!(tally.of(&format!("whole {kind}")) >= 300, "{kind} in {tally}");
     }
-    for reason in [10, 11, 12, 13, 14, 20, 21, 22, 23, 24] {
+    assert!(tally.of("waiting") >= 300, "{tally}");
+    for reason in [10, 11, 12, 13, 14, 20, 21, 22, 23, 24, 26] {
         assert!(tally.of(&format!("bad {reason}")) >= 300, "{reason} in {tally}");
     }
     for refusal in 1..=3 {
@@ -107,6 +111,8 @@ fn the_splits_that_are_compared_are_many() {
 enum Wrong {
     Judge(fn(u32, &[u8]) -> Judgement),
     JudgeAt(fn(u32, &[u8], usize) -> Judgement),
+    /// Vital signs by these rules.
+    Rules(Rules),
     Millimetres(fn(u32) -> Millimetres),
     Read(fn(bool, u32, &[u8], &mut [u32]) -> Reading),
 }
@@ -116,6 +122,7 @@ impl Subject for Wrong {
         let right = Reference.judge(dialect, bytes, place);
         match self {
             Wrong::Judge(judge) if right.refusal == 0 => judge(dialect, &bytes[place..]),
+            Wrong::Rules(rules) if right.refusal == 0 && dialect == 2 => Ok(rules.judge(&bytes[place..])).into(),
             Wrong::JudgeAt(judge) => judge(dialect, bytes, place),
             _ => right,
         }
@@ -180,7 +187,7 @@ fn field_with(dialect: u32, bytes: &[u8], place: usize, change: fn(u32) -> u32) 
 
 const WRONG_JUDGEMENTS: &[(&str, Wrong)] = &[
     ("all places wait", Wrong::Judge(|_, _| waiting())),
-    ("all places are bad", Wrong::Judge(|dialect, _| bad(10 + 10 * dialect))),
+    ("all places are bad", Wrong::Judge(|dialect, _| bad(if dialect == 0 { 10 } else { 20 }))),
     ("lower-case hex is read", Wrong::Judge(|d, b| sirad_with(d, b, |_, byte| byte.to_ascii_uppercase()))),
     ("255 is a character", Wrong::Judge(|d, b| sirad_with(d, b, |_, byte| byte.min(254)))),
     (
@@ -353,9 +360,289 @@ const WRONG_JUDGEMENTS: &[(&str, Wrong)] = &[
     ),
 ];
 
+/// The rules of vital signs, of which each wrong reader has another one.
+const RIGHT: Rules = vital_signs::RULES;
+
+fn legal_lengths(record_type: u32) -> Lengths {
+    vital_signs::legal_lengths(record_type)
+}
+
+/// The vital-signs judgement, with what becomes of it where it is told by this reason.
+fn told_as(dialect: u32, bytes: &[u8], reason: u32, otherwise: fn(&[u8]) -> Judgement) -> Judgement {
+    match right(dialect, bytes) {
+        right if dialect == 2 && right.reason == reason => otherwise(bytes),
+        right => right,
+    }
+}
+
+/// The shortest front that is bad.
+fn seen_at(bytes: &[u8]) -> usize {
+    (0..=bytes.len()).find(|&end| right(2, &bytes[..end]).state == BAD).expect("a bad place")
+}
+
+const WRONG_VITAL_SIGNS: &[(&str, Wrong)] = &[
+    ("L 44 is legal", Wrong::Rules(Rules { is_legal_total: |l| l % 4 == 0 && (40..=32_768).contains(&l), ..RIGHT })),
+    (
+        "L 40 is not legal",
+        Wrong::Rules(Rules { is_legal_total: |l| l % 4 == 0 && (48..=32_768).contains(&l), ..RIGHT }),
+    ),
+    (
+        "L is even",
+        Wrong::Rules(Rules { is_legal_total: |l| l % 2 == 0 && l != 44 && (40..=32_768).contains(&l), ..RIGHT }),
+    ),
+    (
+        "L is a multiple of 8",
+        Wrong::Rules(Rules { is_legal_total: |l| l % 8 == 0 && (40..=32_768).contains(&l), ..RIGHT }),
+    ),
+    ("L has mmWave's limits", Wrong::Rules(Rules { is_legal_total: mmwave::is_legal_total, ..RIGHT })),
+    (
+        "L 32768 is too much",
+        Wrong::Rules(Rules { is_legal_total: |l| l != 32_768 && vital_signs::is_legal_total(l), ..RIGHT }),
+    ),
+    (
+        "L 32772 is legal",
+        Wrong::Rules(Rules { is_legal_total: |l| l == 32_772 || vital_signs::is_legal_total(l), ..RIGHT }),
+    ),
+    ("no records go with L 48", Wrong::Rules(Rules { empty_total: 48, ..RIGHT })),
+    ("no records go with L 64", Wrong::Rules(Rules { empty_total: 64, ..RIGHT })),
+    (
+        "K 0 goes with any L",
+        Wrong::Judge(|d, b| {
+            told_as(d, b, 22, |b| {
+                if field(b, 32) != Some(0) {
+                    return bad(22);
+                }
+                let mut plain = b.to_vec();
+                plain[12..16].copy_from_slice(&40u32.to_le_bytes());
+                match right(2, &plain) {
+                    whole if whole.state == WHOLE && (b.len() as u32) < field(b, 12).unwrap_or(0) => waiting(),
+                    whole if whole.state == WHOLE => Judgement { length: field(b, 12).unwrap_or(0).into(), ..whole },
+                    other => other,
+                }
+            })
+        }),
+    ),
+    ("K 31 is the most", Wrong::Rules(Rules { most_records: 31, ..RIGHT })),
+    ("K 33 is legal", Wrong::Rules(Rules { most_records: 33, ..RIGHT })),
+    (
+        "K 1 with L 40 is seen at the type",
+        Wrong::Judge(|d, b| {
+            told_as(d, b, 22, |b| match (field(b, 12), field(b, 32)) {
+                (Some(40), Some(1)) if b.len() < 44 => waiting(),
+                (Some(40), Some(1)) => bad(23),
+                _ => bad(22),
+            })
+        }),
+    ),
+    ("98 stands for 99", Wrong::Rules(Rules { fixed: &[(28, 98), (36, 0)], ..RIGHT })),
+    ("the number at 28 is free", Wrong::Rules(Rules { fixed: &[(36, 0)], ..RIGHT })),
+    ("the subframe is free", Wrong::Rules(Rules { fixed: &[(28, 99)], ..RIGHT })),
+    ("the subframe is 1", Wrong::Rules(Rules { fixed: &[(28, 99), (36, 1)], ..RIGHT })),
+    (
+        "99 has 24 bits",
+        Wrong::Judge(|d, b| {
+            told_as(d, b, 26, |b| {
+                let mut changed = b.to_vec();
+                changed[31] = 0;
+                right(2, &changed)
+            })
+        }),
+    ),
+    (
+        "the subframe has 8 bits",
+        Wrong::Judge(|d, b| {
+            told_as(d, b, 26, |b| match b.len() {
+                40.. => {
+                    let mut changed = b.to_vec();
+                    changed[37..40].fill(0);
+                    right(2, &changed)
+                }
+                _ => bad(26),
+            })
+        }),
+    ),
+    (
+        "99 is checked with K",
+        Wrong::Judge(|d, b| {
+            told_as(d, b, 26, |b| match (field(b, 28), field(b, 12), field(b, 32)) {
+                (Some(99), ..) => bad(26),
+                (_, Some(total), Some(count)) if !RIGHT.is_legal_count(count.into(), total.into()) => bad(22),
+                (.., Some(_)) => bad(26),
+                _ => waiting(),
+            })
+        }),
+    ),
+    (
+        "99 and the subframe are checked before K",
+        Wrong::Judge(|d, b| match (right(d, b), field(b, 36)) {
+            (right, Some(1..)) if d == 2 && right.reason == 22 => bad(26),
+            (right, _) => right,
+        }),
+    ),
+    (
+        "99 is checked behind the header",
+        Wrong::Judge(|d, b| told_as(d, b, 26, |b| if b.len() < 40 { waiting() } else { bad(26) })),
+    ),
+    ("a wrong fixed field is told as a count", Wrong::Judge(|d, b| told_as(d, b, 26, |_| bad(22)))),
+    ("a wrong fixed field is told as a total", Wrong::Judge(|d, b| told_as(d, b, 26, |_| bad(21)))),
+    (
+        "a wrong subframe has a reason of its own",
+        Wrong::Judge(|d, b| told_as(d, b, 26, |b| bad(if field(b, 28) == Some(99) { 25 } else { 26 }))),
+    ),
+    (
+        "99 is judged by its first byte",
+        Wrong::Judge(|d, b| match right(d, b) {
+            right if d == 2 && right.state == WAITING && (29..32).contains(&b.len()) && b[28] != 99 => bad(26),
+            right => right,
+        }),
+    ),
+    (
+        "L is judged by its first byte",
+        Wrong::Judge(|d, b| match right(d, b) {
+            right if d == 2 && right.state == WAITING && (13..16).contains(&b.len()) && b[12] % 4 != 0 => bad(21),
+            right => right,
+        }),
+    ),
+    ("padding up to a multiple of 32 is fine", Wrong::Rules(Rules { block: 32, ..RIGHT })),
+    ("padding of 4 bytes is fine", Wrong::Rules(Rules { block: 5, ..RIGHT })),
+    ("the records may end anywhere before L", Wrong::Rules(Rules { block: 1 << 20, ..RIGHT })),
+    (
+        "type 5 is legal",
+        Wrong::Rules(Rules {
+            lengths: |t, _| if t == 5 { Lengths::MultiplesOf(2) } else { legal_lengths(t) },
+            ..RIGHT
+        }),
+    ),
+    (
+        "type 0 is legal",
+        Wrong::Rules(Rules {
+            lengths: |t, _| if t == 0 { Lengths::MultiplesOf(4) } else { legal_lengths(t) },
+            ..RIGHT
+        }),
+    ),
+    (
+        "other types are free",
+        Wrong::Rules(Rules { lengths: |t, _| if t > 4 { Lengths::MultiplesOf(1) } else { legal_lengths(t) }, ..RIGHT }),
+    ),
+    ("a type has 8 bits", Wrong::Rules(Rules { lengths: |t, _| legal_lengths(t & 255), ..RIGHT })),
+    ("a type has 24 bits", Wrong::Rules(Rules { lengths: |t, _| legal_lengths(t & 0x00FF_FFFF), ..RIGHT })),
+    ("types have mmWave's lengths", Wrong::Rules(Rules { lengths: mmwave::legal_lengths, ..RIGHT })),
+    (
+        "type 1 has 20 bytes",
+        Wrong::Rules(Rules { lengths: |t, _| if t == 1 { Lengths::Only(20) } else { legal_lengths(t) }, ..RIGHT }),
+    ),
+    (
+        "type 1 is a multiple of 24",
+        Wrong::Rules(Rules {
+            lengths: |t, _| if t == 1 { Lengths::MultiplesOf(24) } else { legal_lengths(t) },
+            ..RIGHT
+        }),
+    ),
+    (
+        "type 4 has 24 bytes",
+        Wrong::Rules(Rules { lengths: |t, _| if t == 4 { Lengths::Only(24) } else { legal_lengths(t) }, ..RIGHT }),
+    ),
+    (
+        "type 4 is a multiple of 4",
+        Wrong::Rules(Rules {
+            lengths: |t, _| if t == 4 { Lengths::MultiplesOf(4) } else { legal_lengths(t) },
+            ..RIGHT
+        }),
+    ),
+    (
+        "type 2 goes by twos",
+        Wrong::Rules(Rules {
+            lengths: |t, _| if t == 2 { Lengths::MultiplesOf(2) } else { legal_lengths(t) },
+            ..RIGHT
+        }),
+    ),
+    (
+        "type 2 goes by eights",
+        Wrong::Rules(Rules {
+            lengths: |t, _| if t == 2 { Lengths::MultiplesOf(8) } else { legal_lengths(t) },
+            ..RIGHT
+        }),
+    ),
+    (
+        "type 3 goes by fours",
+        Wrong::Rules(Rules {
+            lengths: |t, _| if t == 3 { Lengths::MultiplesOf(4) } else { legal_lengths(t) },
+            ..RIGHT
+        }),
+    ),
+    (
+        "type 3 goes by eights",
+        Wrong::Rules(Rules {
+            lengths: |t, _| if t == 3 { Lengths::MultiplesOf(8) } else { legal_lengths(t) },
+            ..RIGHT
+        }),
+    ),
+    (
+        "an empty payload is not legal",
+        Wrong::Judge(|d, b| match (right(d, b), field(b, 44)) {
+            (right, Some(0)) if d == 2 && right.state == WHOLE && right.length > 40 => bad(24),
+            (right, _) => right,
+        }),
+    ),
+    (
+        "a type that can't fit waits for its length",
+        Wrong::Judge(|d, b| told_as(d, b, 23, |b| if b.len() < seen_at(b) + 4 { waiting() } else { bad(24) })),
+    ),
+    (
+        "a last type 3 that leaves a rest waits",
+        Wrong::Judge(|d, b| {
+            told_as(d, b, 23, |b| match b.len() - seen_at(b) {
+                ..4 if b[seen_at(b) - 4..seen_at(b)] == [3, 0, 0, 0] => waiting(),
+                _ => bad(23),
+            })
+        }),
+    ),
+    (
+        "a length that leaves no room waits for the rest",
+        Wrong::Judge(|d, b| told_as(d, b, 24, |b| if b.len() < seen_at(b) + 4 { waiting() } else { bad(24) })),
+    ),
+    ("a wrong length is told as a type", Wrong::Judge(|d, b| told_as(d, b, 24, |_| bad(23)))),
+    ("the kind is 16", Wrong::Rules(Rules { kind: 16, ..RIGHT })),
+    ("vital signs are judged as mmWave", Wrong::Rules(mmwave::RULES)),
+    ("mmWave is judged as vital signs", Wrong::Judge(|d, b| right(if d == 1 { 2 } else { d }, b))),
+    (
+        "mmWave has no 99 objects",
+        Wrong::Judge(|d, b| match (right(d, b), field(b, 28)) {
+            (right, Some(99)) if right.kind == 16 => bad(26),
+            (right, _) => right,
+        }),
+    ),
+    (
+        "the header has 44 bytes",
+        Wrong::Judge(|d, b| match d {
+            2 if b.len() > 44 => right(d, &[&b[..40], &b[44..]].concat()),
+            _ => right(d, b),
+        }),
+    ),
+    (
+        "the last byte is not waited for",
+        Wrong::Judge(|d, b| {
+            let longer = [b, &[0]].concat();
+            match (right(d, b), right(d, &longer)) {
+                (now, then) if d == 2 && now.state == WAITING && then.state == WHOLE => then,
+                (now, _) => now,
+            }
+        }),
+    ),
+    (
+        "dialect 2 is refused",
+        Wrong::JudgeAt(|d, b, place| match d {
+            2 => Judgement { refusal: judgement::judge(3, b, place).err().unwrap_or(0), ..Judgement::default() },
+            _ => Reference.judge(d, b, place),
+        }),
+    ),
+    ("dialect 3 is read", Wrong::JudgeAt(|d, b, place| Reference.judge(if d == 3 { 2 } else { d }, b, place))),
+    ("a dialect has 8 bits", Wrong::JudgeAt(|d, b, place| Reference.judge(d & 255, b, place))),
+];
+
 #[test]
 fn wrong_judgements_are_found() {
-    for (name, wrong) in WRONG_JUDGEMENTS {
+    for (name, wrong) in WRONG_JUDGEMENTS.iter().chain(WRONG_VITAL_SIGNS) {
         let found = compare_judgements(wrong, first_seed(), JUDGEMENTS);
         assert!(found.is_err(), "not found: {name}");
     }
@@ -552,9 +839,27 @@ const WRONG_READINGS: &[(&str, Wrong)] = &[
         }),
     ),
     (
+        "dialect 2 is read as dialect 1",
+        Wrong::Read(|closed, d, b, table| right_reading(closed, if d == 2 { 1 } else { d }, b, table)),
+    ),
+    (
+        "dialect 3 is read",
+        Wrong::Read(|closed, d, b, table| right_reading(closed, if d == 3 { 2 } else { d }, b, table)),
+    ),
+    (
+        "a row of vital signs has kind 16",
+        Wrong::Read(|closed, d, b, table| {
+            let reading = right_reading(closed, d, b, table);
+            for row in table.chunks_exact_mut(ROW).take(reading.rows as usize) {
+                row[2] = row[2].min(16);
+            }
+            reading
+        }),
+    ),
+    (
         "a mebibyte is refused",
         Wrong::Read(|closed, d, b, table| match b.len() {
-            1_048_576 if d < 2 => Reading { refusal: 3, ..Reading::default() },
+            1_048_576 if d < 3 => Reading { refusal: 3, ..Reading::default() },
             _ => right_reading(closed, d, b, table),
         }),
     ),
@@ -571,8 +876,11 @@ fn wrong_readings_are_found() {
 #[test]
 fn wrong_answers_are_found_by_splitting() {
     let by_splitting = [WRONG_JUDGEMENTS[11], WRONG_JUDGEMENTS[12], WRONG_READINGS[2], WRONG_READINGS[10]];
-    for (name, wrong) in by_splitting {
-        let found = compare_splits(&wrong, first_seed(), SPLIT_CAPTURES);
+    let vital_signs = ["the last byte is not waited for", "a type that can't fit waits for its length"];
+    let vital_signs = WRONG_VITAL_SIGNS.iter().filter(|(name, _)| vital_signs.contains(name));
+    assert_eq!(vital_signs.clone().count(), 2);
+    for (name, wrong) in by_splitting.iter().chain(vital_signs) {
+        let found = compare_splits(wrong, first_seed(), SPLIT_CAPTURES);
         assert!(found.is_err(), "not found: {name}");
     }
 }

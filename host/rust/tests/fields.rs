@@ -42,24 +42,40 @@ const FRAMES: Run = Run {
     ],
 };
 
+/// Packets of both dialects by turns, each asked of both kinds and of one other.
 const PACKETS: Run = Run {
     compare: compare_packets,
     count: 40_000,
     seen: &[
-        ("header", 10_000),
-        ("header, refused 5", 5000),
-        ("record", 10_000),
-        ("record, refused 5", 5000),
-        ("record, refused 6", 10_000),
-        ("step", 10_000),
-        ("step, refused 5", 5000),
-        ("step, refused 6", 10_000),
+        ("header of kind 16", 10_000),
+        ("header of kind 16, refused 5", 5000),
+        ("header of kind 17", 10_000),
+        ("header of kind 17, refused 5", 5000),
+        ("header of kind 0, refused 5", 1000),
+        ("header of kind 18, refused 5", 1000),
+        ("record of kind 16", 10_000),
+        ("record of kind 16, refused 5", 5000),
+        ("record of kind 16, refused 6", 10_000),
+        ("record of kind 17, type 1", 2000),
+        ("record of kind 17, type 2", 2000),
+        ("record of kind 17, type 3", 2000),
+        ("record of kind 17, type 4", 2000),
+        ("record of kind 17, refused 5", 5000),
+        ("record of kind 17, refused 6", 10_000),
+        ("record of kind 18, refused 5", 1000),
+        ("step of kind 16", 10_000),
+        ("step of kind 16, refused 5", 5000),
+        ("step of kind 16, refused 6", 10_000),
+        ("step of kind 17", 10_000),
+        ("step of kind 17, refused 5", 5000),
+        ("step of kind 17, refused 6", 10_000),
+        ("step of kind 18, refused 5", 1000),
         ("point", 1000),
         ("point, refused 5", 5000),
         ("point, refused 6", 5000),
         ("point, refused 7", 5000),
-        ("point, refused 30", 1000),
-        ("point, refused 31", 1000),
+        ("point, refused 30", 500),
+        ("point, refused 31", 500),
     ],
 };
 
@@ -178,7 +194,8 @@ mod library {
     }
 }
 
-/// The packets at the edges, and slices that are none: what the program packet_cases reads, each behind its length.
+/// The packets at the edges, and slices that are none: what the program packet_cases reads, each behind its length; then
+/// vital-signs packets, among them the least and one of both dialects, and each without its last byte.
 fn slices() -> Vec<Vec<u8>> {
     let file = concat!(env!("CARGO_MANIFEST_DIR"), "/../../crates/packet_cases/stdin");
     let bytes = std::fs::read(file).expect(file);
@@ -188,7 +205,70 @@ fn slices() -> Vec<Vec<u8>> {
         slices.push(slice.to_vec());
         rest = behind;
     }
+    for records in [&[][..], &[(1, 24), (2, 40), (3, 32), (4, 20)], &[(2, 16)], &[(4, 20), (2, 0), (3, 0), (2, 12)]] {
+        let packet = vital_signs_packet(records);
+        slices.push(packet[..packet.len() - 1].to_vec());
+        slices.push(packet);
+    }
     slices
+}
+
+/// A vital-signs packet with these types and payload lengths.
+fn vital_signs_packet(records: &[(u32, usize)]) -> Vec<u8> {
+    let total = 40 + records.iter().map(|(_, length)| 8 + length).sum::<usize>();
+    let header = [0x0305_0004, total as u32, 0x000A_1642, 7, 1234, 99, records.len() as u32, 0];
+    let mut bytes = vec![2, 1, 4, 3, 6, 5, 8, 7];
+    bytes.extend(header.iter().flat_map(|field| field.to_le_bytes()));
+    for &(record_type, length) in records {
+        bytes.extend(record_type.to_le_bytes());
+        bytes.extend((length as u32).to_le_bytes());
+        bytes.extend((0..length).map(|index| index as u8));
+    }
+    bytes
+}
+
+/// The numbers of a vital-signs packet, worked out by hand, of the reader and of the library.
+#[test]
+fn a_vital_signs_packet_is_read_of_kind_17() {
+    #[allow(unused_mut)]
+    let mut subjects: Vec<Box<dyn FieldSubject>> = vec![Box::new(Reference)];
+    #[cfg(gateway_linked)]
+    subjects.push(Box::new(radar_reference::gateway::Gateway));
+    for subject in subjects {
+        let packet = vital_signs_packet(&[(1, 24), (2, 8), (3, 16), (4, 20)]);
+        assert_eq!(packet.len(), 140);
+        let header = Header {
+            refusal: 0,
+            version: 0x0305_0004,
+            total: 140,
+            platform: 0x000A_1642,
+            frame: 7,
+            time: 1234,
+            objects: 99,
+            records: 4,
+            subframe: 0,
+        };
+        assert_eq!(subject.header(17, &packet), header);
+        assert_eq!(subject.record(17, &packet, 0), Record { refusal: 0, tag: 1, start: 48, length: 24 });
+        assert_eq!(subject.record(17, &packet, 3), Record { refusal: 0, tag: 4, start: 120, length: 20 });
+        assert_eq!(subject.record(17, &packet, 4), Record { refusal: 6, ..Record::default() });
+        assert_eq!(subject.step(17, &packet, 72), Step { refusal: 0, tag: 2, start: 80, length: 8, next: 88 });
+        assert_eq!(subject.step(17, &packet, 140), Step { refusal: 6, next: 140, ..Step::default() });
+        assert_eq!(subject.point(&packet, 0), Point { refusal: 5, ..Point::default() });
+        for kind in [0, 1, 2, 15, 16, 18, 273, u32::MAX] {
+            assert_eq!(subject.header(kind, &packet), Header { refusal: 5, ..Header::default() });
+            assert_eq!(subject.record(kind, &packet, 9), Record { refusal: 5, ..Record::default() });
+            assert_eq!(subject.step(kind, &packet, 40), Step { refusal: 5, next: 40, ..Step::default() });
+        }
+        // A packet of both dialects is one of either kind, and it has no points.
+        let both = vital_signs_packet(&[(2, 16)]);
+        for kind in [16, 17] {
+            assert_eq!((subject.header(kind, &both).refusal, subject.header(kind, &both).objects), (0, 99));
+            assert_eq!(subject.record(kind, &both, 0), Record { refusal: 0, tag: 2, start: 48, length: 16 });
+            assert_eq!(subject.step(kind, &both, 40), Step { refusal: 0, tag: 2, start: 48, length: 16, next: 64 });
+        }
+        assert_eq!(subject.point(&both, 0), Point { refusal: 7, ..Point::default() });
+    }
 }
 
 // The runs themselves, on the reader and on readers that are wrong on purpose.
@@ -220,9 +300,9 @@ macro_rules! wrong {
 }
 
 wrong! {
-    Header header(packet: &[u8]) -> Header;
-    Record record(packet: &[u8], index: usize) -> Record;
-    Step step(packet: &[u8], place: usize) -> Step;
+    Header header(kind: u32, packet: &[u8]) -> Header;
+    Record record(kind: u32, packet: &[u8], index: usize) -> Record;
+    Step step(kind: u32, packet: &[u8], place: usize) -> Step;
     Point point(packet: &[u8], index: usize) -> Point;
     ReadCommand read_command(bytes: &[u8]) -> Command;
     WriteCommand write_command(output: &mut [u8], command: Command) -> Written;
@@ -251,7 +331,8 @@ fn word_with(bytes: &[u8], place: usize, change: fn(u32) -> u32) -> Vec<u8> {
 
 /// Where the records of a type start.
 fn starts_of(packet: &[u8], tag: u32) -> Vec<usize> {
-    let records = (0..Reference.header(packet).records as usize).map(|index| Reference.record(packet, index));
+    let count = Reference.header(16, packet).records as usize;
+    let records = (0..count).map(|index| Reference.record(16, packet, index));
     records.filter(|record| record.tag == tag).map(|record| record.start as usize - 8).collect()
 }
 
@@ -260,50 +341,50 @@ fn refused(refusal: u32) -> Written {
 }
 
 const WRONG_PACKETS: &[(&str, Wrong)] = &[
-    ("every packet is refused", Wrong::Header(|_| Header { refusal: 5, ..Header::default() })),
+    ("every packet is refused", Wrong::Header(|_, _| Header { refusal: 5, ..Header::default() })),
     (
         "time and frame number change places",
-        Wrong::Header(|p| {
-            let right = Reference.header(p);
+        Wrong::Header(|kind, p| {
+            let right = Reference.header(kind, p);
             Header { time: right.frame, frame: right.time, ..right }
         }),
     ),
     (
         "bytes behind a packet are ignored",
-        Wrong::Header(|p| Reference.header(p.get(..word(p, 12).unwrap_or(0) as usize).unwrap_or(p))),
+        Wrong::Header(|kind, p| Reference.header(kind, p.get(..word(p, 12).unwrap_or(0) as usize).unwrap_or(p))),
     ),
     (
         "a payload starts at its record",
-        Wrong::Record(|p, index| {
-            let right = Reference.record(p, index);
+        Wrong::Record(|kind, p, index| {
+            let right = Reference.record(kind, p, index);
             Record { start: right.start.saturating_sub(8), ..right }
         }),
     ),
-    ("a record's index has 32 bits", Wrong::Record(|p, index| Reference.record(p, index as u32 as usize))),
-    ("records count from 1", Wrong::Record(|p, index| Reference.record(p, index.saturating_sub(1)))),
+    ("a record's index has 32 bits", Wrong::Record(|kind, p, index| Reference.record(kind, p, index as u32 as usize))),
+    ("records count from 1", Wrong::Record(|kind, p, index| Reference.record(kind, p, index.saturating_sub(1)))),
     (
         "6 goes before 5",
-        Wrong::Record(|p, index| match Reference.record(p, index) {
+        Wrong::Record(|kind, p, index| match Reference.record(kind, p, index) {
             right if right.refusal == 5 && index > 32 => Record { refusal: 6, ..right },
             right => right,
         }),
     ),
-    ("a place has 32 bits", Wrong::Step(|p, place| Reference.step(p, place as u32 as usize))),
+    ("a place has 32 bits", Wrong::Step(|kind, p, place| Reference.step(kind, p, place as u32 as usize))),
     (
         "a refused step goes back to the start",
-        Wrong::Step(|p, place| match Reference.step(p, place) {
+        Wrong::Step(|kind, p, place| match Reference.step(kind, p, place) {
             right if right.refusal != 0 => Step { next: 40, ..right },
             right => right,
         }),
     ),
     (
         "a step is over the payload only",
-        Wrong::Step(|p, place| {
-            let right = Reference.step(p, place);
+        Wrong::Step(|kind, p, place| {
+            let right = Reference.step(kind, p, place);
             Step { next: if right.refusal == 0 { right.start + right.length - 8 } else { right.next }, ..right }
         }),
     ),
-    ("a step from anywhere gives the first record", Wrong::Step(|p, _| Reference.step(p, 40))),
+    ("a step from anywhere gives the first record", Wrong::Step(|kind, p, _| Reference.step(kind, p, 40))),
     ("a point's index has 32 bits", Wrong::Point(|p, index| Reference.point(p, index as u32 as usize))),
     (
         "points come from the last record of type 1",
@@ -317,7 +398,7 @@ const WRONG_PACKETS: &[(&str, Wrong)] = &[
     (
         "6 goes before 7",
         Wrong::Point(|p, index| match Reference.point(p, index) {
-            right if right.refusal == 7 && index >= Reference.header(p).objects as usize => {
+            right if right.refusal == 7 && index >= Reference.header(16, p).objects as usize => {
                 Point { refusal: 6, ..right }
             }
             right => right,
@@ -346,6 +427,76 @@ const WRONG_PACKETS: &[(&str, Wrong)] = &[
         Wrong::Point(|p, index| {
             let right = Reference.point(p, index);
             Point { x: right.z, z: right.x, ..right }
+        }),
+    ),
+    ("a header of kind 17 is refused", Wrong::Header(|kind, p| Reference.header(if kind == 17 { 0 } else { kind }, p))),
+    (
+        "records of kind 17 are refused",
+        Wrong::Record(|kind, p, index| match kind {
+            17 => Record { refusal: 5, ..Record::default() },
+            _ => Reference.record(kind, p, index),
+        }),
+    ),
+    ("a header of kind 18 is read", Wrong::Header(|kind, p| Reference.header(if kind == 18 { 17 } else { kind }, p))),
+    ("records of kind 15 are read", Wrong::Record(|kind, p, index| Reference.record(kind.max(16), p, index))),
+    (
+        "steps of kind 18 are read",
+        Wrong::Step(|kind, p, place| Reference.step(if kind == 18 { 16 } else { kind }, p, place)),
+    ),
+    ("a kind has 8 bits", Wrong::Header(|kind, p| Reference.header(kind & 255, p))),
+    ("a step's kind has 8 bits", Wrong::Step(|kind, p, place| Reference.step(kind & 255, p, place))),
+    (
+        "the dialect is taken for the kind",
+        Wrong::Header(|kind, p| Reference.header(if kind < 3 { kind + 15 } else { kind }, p)),
+    ),
+    (
+        "the kind is not looked at",
+        Wrong::Header(|kind, p| match Reference.header(16, p) {
+            right if right.refusal == 0 => right,
+            _ => Reference.header(if kind == 16 { 17 } else { kind }, p),
+        }),
+    ),
+    (
+        "a packet of both kinds is one of kind 16 only",
+        Wrong::Header(|kind, p| match Reference.header(16, p).refusal {
+            0 if kind == 17 => Header { refusal: 5, ..Header::default() },
+            _ => Reference.header(kind, p),
+        }),
+    ),
+    (
+        "a packet of both kinds is one of kind 17 only",
+        Wrong::Step(|kind, p, place| match Reference.header(17, p).refusal {
+            0 if kind == 16 => Step { refusal: 5, next: place as u64, ..Step::default() },
+            _ => Reference.step(kind, p, place),
+        }),
+    ),
+    ("records of kind 17 are read by mmWave's rules", Wrong::Record(|_, p, index| Reference.record(16, p, index))),
+    (
+        "99 is not shown as the object count",
+        Wrong::Header(|kind, p| {
+            let right = Reference.header(kind, p);
+            Header { objects: if kind == 17 { 0 } else { right.objects }, ..right }
+        }),
+    ),
+    (
+        "an unknown kind is 6 to a record",
+        Wrong::Record(|kind, p, index| match Reference.record(kind, p, index) {
+            right if right.refusal == 5 && !(16..=17).contains(&kind) => Record { refusal: 6, ..right },
+            right => right,
+        }),
+    ),
+    (
+        "an unknown kind moves the place",
+        Wrong::Step(|kind, p, place| match Reference.step(kind, p, place) {
+            right if right.refusal == 5 && !(16..=17).contains(&kind) => Step { next: 0, ..right },
+            right => right,
+        }),
+    ),
+    (
+        "points are read of kind 17",
+        Wrong::Point(|p, index| match Reference.point(p, index) {
+            right if right.refusal == 5 && Reference.header(17, p).refusal == 0 => Point { refusal: 7, ..right },
+            right => right,
         }),
     ),
 ];

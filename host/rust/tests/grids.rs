@@ -1,13 +1,15 @@
-//! Judgements over grids: a SiRad frame of each kind cut anywhere and with every value of every byte; packets at the limits
-//! of every total length, with all types, payload lengths and object counts, false starts, cut and damaged.
+//! Judgements over grids: a SiRad frame of each kind cut anywhere and with every value of every byte; packets of both packet
+//! dialects at the limits of every total length, with all types, payload lengths and object counts, false starts, cut and
+//! damaged.
 //!
-//! The counts were made with the judgements of tests/expected/judge_cases.py, which know nothing of this reader. The
-//! library is judged too if `VQ_LIB_DIR` names the directory that holds the archives.
+//! The counts of SiRad and mmWave were made with the judgements of tests/expected/judge_cases.py, those of vital signs by
+//! trying which records fill a packet; neither knows anything of this reader. The library is judged too if `VQ_LIB_DIR`
+//! names the directory that holds the archive.
 
 use radar_reference::abi::{Reference, Subject, BAD, WHOLE};
 use radar_reference::compare::check_judgement;
-use radar_reference::judgement::{MMWAVE, SIRAD};
-use radar_reference::mmwave::MAGIC;
+use radar_reference::judgement::{MMWAVE, SIRAD, VITAL_SIGNS};
+use radar_reference::packet_rules::MAGIC;
 
 /// How judgements fell: whole, bad, waiting.
 type Counts = [u64; 3];
@@ -257,20 +259,161 @@ fn a_packet_with_every_value_of_every_byte() {
     let mut bytes = three_records();
     for (by, expected) in [(1, [129, 45, 146]), (128, [129, 45, 146])] {
         let mut grid = Grid::of(MMWAVE);
-        judge_damages(&mut grid, &mut bytes, by);
+        judge_damages(&mut grid, &mut bytes, 160, by);
         grid.assert("damaged", expected);
     }
     for by in 0..=255 {
-        judge_damages(&mut Grid::of(MMWAVE), &mut bytes, by);
+        judge_damages(&mut Grid::of(MMWAVE), &mut bytes, 160, by);
     }
 }
 
-fn judge_damages(grid: &mut Grid, bytes: &mut [u8], by: u8) {
-    for place in 0..160 {
+fn judge_damages(grid: &mut Grid, bytes: &mut [u8], total: usize, by: u8) {
+    for place in 0..total {
         let right = bytes[place];
         bytes[place] = right.wrapping_add(by);
-        grid.judge(&bytes[..160]);
+        grid.judge(&bytes[..total]);
         grid.judge(&bytes[..=place]);
         bytes[place] = right;
+    }
+}
+
+// Vital signs
+
+/// A header of a vital-signs packet at the front.
+fn vital_signs_header(bytes: &mut [u8], total: u32, records: u32) {
+    header(bytes, 0, total, 99, records);
+    put(bytes, 36, 0);
+}
+
+#[test]
+fn all_record_counts_with_total_lengths_near_the_limits() {
+    let mut grid = Grid::of(VITAL_SIGNS);
+    let mut bytes = filled();
+    for total in (0..=400).chain(32_600..=33_000) {
+        for records in 0..=34 {
+            vital_signs_header(&mut bytes, total, records);
+            grid.judge(&bytes[..40]);
+        }
+    }
+    grid.assert("counts", [1, 23_415 + 1422, 3232]);
+}
+
+/// No record, one, two, the most, one more than that, 33, all of type 2 and empty but for the last: it fills the packet, or
+/// ends four bytes too early or too late, or is odd by two. The packet is judged whole and without its last byte.
+#[test]
+fn every_total_length_of_vital_signs_at_its_limits() {
+    let mut grid = Grid::of(VITAL_SIGNS);
+    let mut bytes = filled();
+    for total in (48..=32_768u32).step_by(4) {
+        let most = ((total - 40) / 8).min(32);
+        for records in [0, 1, 2, most, most + 1, 33] {
+            let room = total.wrapping_sub(40 + 8 * records);
+            for last in [room, room.wrapping_sub(4), room.wrapping_add(4), room.wrapping_add(2)] {
+                vital_signs_header(&mut bytes, total, records);
+                for index in 0..records as usize {
+                    record(&mut bytes, 40 + 8 * index, 2, 0);
+                }
+                if records > 0 {
+                    put(&mut bytes, 36 + 8 * records as usize, last);
+                }
+                grid.judge(&bytes[..total as usize]);
+                grid.judge(&bytes[..total as usize - 1]);
+            }
+        }
+    }
+    grid.assert("totals", [24_541, 196_360 + 147_144, 24_643]);
+}
+
+#[test]
+fn the_fixed_fields_with_all_bytes() {
+    let mut grid = Grid::of(VITAL_SIGNS);
+    let mut bytes = filled();
+    for (total, records) in [(40, 0), (48, 1), (48, 0), (48, 2), (48, 33)] {
+        for place in [28, 36] {
+            for number in (0..256).flat_map(|byte| [byte, byte << 8, byte << 16, byte << 24, 99 | byte << 8]) {
+                vital_signs_header(&mut bytes, total, records);
+                put(&mut bytes, place, number);
+                grid.judge(&bytes[..40]);
+                grid.judge(&bytes[..place + 4]);
+                grid.judge(&bytes[..place + 3]);
+            }
+        }
+    }
+    grid.assert("fixed fields", [10, 17_884 + 11_526, 8980]);
+}
+
+/// One record of the type, or two, of which the second is of type 2 and fills the rest.
+#[test]
+fn all_types_of_vital_signs_with_payloads_up_to_80_bytes() {
+    let mut grid = Grid::of(VITAL_SIGNS);
+    let mut bytes = filled();
+    for length in 0..81u32 {
+        for kind in (0..8).chain([255, 257, 0x0100_0002, u32::MAX]) {
+            for total in [48, 52, 56, 64, 68, 72, 76, 80, 96, 128, 132] {
+                for records in [1, 2] {
+                    vital_signs_header(&mut bytes, total, records);
+                    record(&mut bytes, 48 + length as usize, 2, total.wrapping_sub(56).wrapping_sub(length));
+                    record(&mut bytes, 40, kind, length);
+                    grid.judge(&bytes[..total as usize]);
+                    grid.judge(&bytes[..44]);
+                    grid.judge(&bytes[..48]);
+                }
+            }
+        }
+    }
+    grid.assert("types", [126, 5832 + 47_385 + 7042, 3767]);
+}
+
+/// A packet of 168 bytes with all four types; a byte stands behind it.
+fn four_records() -> Vec<u8> {
+    let mut bytes = filled();
+    vital_signs_header(&mut bytes, 168, 4);
+    record(&mut bytes, 40, 1, 24);
+    record(&mut bytes, 72, 2, 20);
+    record(&mut bytes, 100, 3, 32);
+    record(&mut bytes, 140, 4, 20);
+    bytes.truncate(169);
+    bytes
+}
+
+#[test]
+fn a_vital_signs_packet_cut_anywhere() {
+    let bytes = four_records();
+    let mut grid = Grid::of(VITAL_SIGNS);
+    for end in 0..=bytes.len() {
+        grid.judge(&bytes[..end]);
+    }
+    grid.assert("cut", [2, 0, 168]);
+}
+
+/// Judged whole, and up to the byte that is damaged.
+#[test]
+fn a_vital_signs_packet_with_every_value_of_every_byte() {
+    let mut bytes = four_records();
+    for (by, expected) in [(1, [114, 75, 147]), (128, [113, 76, 147])] {
+        let mut grid = Grid::of(VITAL_SIGNS);
+        judge_damages(&mut grid, &mut bytes, 168, by);
+        grid.assert("damaged", expected);
+    }
+    for by in 0..=255 {
+        judge_damages(&mut Grid::of(VITAL_SIGNS), &mut bytes, 168, by);
+    }
+}
+
+/// The first bytes of a header, then a packet: judged at both places, as either packet dialect.
+#[test]
+fn false_starts_in_front_of_a_packet_of_both_dialects() {
+    for dialect in [MMWAVE, VITAL_SIGNS] {
+        let mut grid = Grid::of(dialect);
+        let mut bytes = filled();
+        for place in 0..41 {
+            header(&mut bytes, 0, 64, 99, 1);
+            header(&mut bytes, place, 64, 99, 1);
+            put(&mut bytes, place + 36, 0);
+            record(&mut bytes, place + 40, 2, 16);
+            grid.judge(&bytes[..64 + place]);
+            grid.judge(&bytes[place..place + 64]);
+        }
+        grid.assert("false starts", [42, 40, 0]);
     }
 }

@@ -1,8 +1,9 @@
-//! Paper 01's own values: every line of "Values at the edges", the listing, the traps.
+//! The papers' own values: every line of paper 01's "Values at the edges", its listing and its traps; the sentences of
+//! paper 02 (i), one by one.
 
-use radar_reference::judgement::{judge, Judgement, MMWAVE, SIRAD};
-use radar_reference::mmwave::MAGIC;
+use radar_reference::judgement::{judge, Judgement, DIALECTS, MMWAVE, SIRAD, VITAL_SIGNS};
 use radar_reference::numbers::{accuracy_millimetres, decibels, millimetres, phase_hundredths};
+use radar_reference::packet_rules::MAGIC;
 use radar_reference::reading::{closed_reading, open_reading, Reading};
 use radar_reference::{listing, packet, sirad_fields};
 
@@ -107,7 +108,7 @@ fn line_12_an_error_frame_begun() {
 
 #[test]
 fn line_13_empty_input() {
-    for dialect in [SIRAD, MMWAVE] {
+    for dialect in DIALECTS {
         let mut table = [7; 3];
         let none = Reading { rows: 0, skipped: 0, next: 0, state: 0 };
         assert_eq!(open_reading(dialect, b"", &mut table), Ok(none));
@@ -153,8 +154,8 @@ fn trap_44_as_the_header_length_reads_a_length_as_a_type() {
     // At 40 stands type 10 with length 6; a header of 44 bytes would see type 6, which doesn't fit.
     let bytes = padded(packet_front(64, 1, &[10, 6]), 64);
     assert_eq!(judge(MMWAVE, &bytes, 0), whole(16, 64));
-    assert_eq!(packet::record(&bytes, 0).unwrap().record_type, 10);
-    assert_eq!(packet::record(&bytes, 0).unwrap().payload.len(), 6);
+    assert_eq!(packet::record(16, &bytes, 0).unwrap().record_type, 10);
+    assert_eq!(packet::record(16, &bytes, 0).unwrap().payload.len(), 6);
 }
 
 #[test]
@@ -170,4 +171,155 @@ fn trap_a_type_judged_by_its_length_field_only() {
         assert_eq!(judge(MMWAVE, &bytes[..end], 0), bad(23));
     }
     assert_eq!(judge(MMWAVE, &bytes[..43], 0), Ok(Judgement::Waiting));
+}
+
+// Paper 02 (i), vital-signs chips, sentence by sentence.
+
+/// A vital-signs packet's front: its header with these numbers at 12, 28, 32 and 36, then these four-byte fields.
+fn vital_signs_front([total, fixed, records, subframe]: [u32; 4], fields: &[u32]) -> Vec<u8> {
+    let mut bytes = packet_front(total, records, fields);
+    bytes[28..32].copy_from_slice(&fixed.to_le_bytes());
+    bytes[36..40].copy_from_slice(&subframe.to_le_bytes());
+    bytes
+}
+
+/// The judgement of a vital-signs packet with this L and K and these four-byte fields, filled up to L.
+fn vital_signs(total: u32, records: u32, fields: &[u32]) -> Result<Judgement, u32> {
+    let bytes = vital_signs_front([total, 99, records, 0], fields);
+    let length = bytes.len().max(total as usize);
+    judge(VITAL_SIGNS, &padded(bytes, length), 0)
+}
+
+#[test]
+fn dialect_2_kind_17() {
+    assert_eq!(vital_signs(40, 0, &[]), whole(17, 40));
+    assert_eq!(vital_signs(48, 1, &[2, 0]), whole(17, 48));
+}
+
+#[test]
+fn offset_28_holds_99_and_the_subframe_is_0() {
+    for (fixed, subframe) in [(98, 0), (100, 0), (0, 0), (99, 1), (99, 99), (99 << 8, 0), (99, 1 << 31)] {
+        assert_eq!(judge(VITAL_SIGNS, &vital_signs_front([40, fixed, 0, subframe], &[]), 0), bad(26));
+    }
+    // "26 for a wrong 99 or subframe, at its own field": before K the one, behind it the other.
+    let both = vital_signs_front([48, 98, 33, 1], &[]);
+    assert_eq!(judge(VITAL_SIGNS, &both[..31], 0), Ok(Judgement::Waiting));
+    assert_eq!(judge(VITAL_SIGNS, &both[..32], 0), bad(26));
+    let count = vital_signs_front([48, 99, 33, 1], &[]);
+    assert_eq!(judge(VITAL_SIGNS, &count, 0), bad(22));
+    let subframe = vital_signs_front([48, 99, 1, 1], &[7]);
+    assert_eq!(judge(VITAL_SIGNS, &subframe[..39], 0), Ok(Judgement::Waiting));
+    assert_eq!(judge(VITAL_SIGNS, &subframe, 0), bad(26));
+}
+
+#[test]
+fn there_is_no_padding() {
+    assert_eq!(vital_signs(64, 1, &[2, 16]), whole(17, 64));
+    assert_eq!(vital_signs(64, 1, &[2, 12]), bad(24));
+    assert_eq!(vital_signs(64, 1, &[2, 20]), bad(24));
+    assert_eq!(vital_signs(64, 0, &[]), bad(22));
+}
+
+#[test]
+fn l_is_at_least_40_and_at_most_32768() {
+    assert_eq!(vital_signs(36, 0, &[]), bad(21));
+    assert_eq!(vital_signs(32_768, 1, &[2, 32_720]), whole(17, 32_768));
+    assert_eq!(vital_signs(32_768, 1, &[3, 32_720]), whole(17, 32_768));
+    assert_eq!(vital_signs(32_772, 1, &[2, 32_724]), bad(21));
+}
+
+#[test]
+fn k_is_at_most_32() {
+    assert_eq!(vital_signs(296, 32, &[2, 0].repeat(32)), whole(17, 296));
+    assert_eq!(vital_signs(304, 33, &[2, 0].repeat(33)), bad(22));
+}
+
+#[test]
+fn types_and_their_lengths() {
+    assert_eq!(vital_signs(72, 1, &[1, 24]), whole(17, 72));
+    assert_eq!(vital_signs(68, 1, &[4, 20]), whole(17, 68));
+    assert_eq!(vital_signs(52, 1, &[2, 4]), whole(17, 52));
+    assert_eq!(vital_signs(64, 1, &[3, 16]), whole(17, 64));
+    assert_eq!(vital_signs(72, 1, &[1, 20]), bad(24));
+    assert_eq!(vital_signs(68, 1, &[1, 20]), bad(23));
+    assert_eq!(vital_signs(68, 1, &[4, 24]), bad(24));
+    assert_eq!(vital_signs(72, 1, &[4, 24]), bad(23));
+    assert_eq!(vital_signs(56, 1, &[2, 6]), bad(24));
+    assert_eq!(vital_signs(56, 1, &[3, 8]), bad(23));
+    assert_eq!(vital_signs(64, 2, &[3, 4]), bad(24));
+    for other in [0, 5, 6, 7, 8, 9, 10, 258, u32::MAX] {
+        assert_eq!(vital_signs(64, 1, &[other, 16]), bad(23), "{other}");
+    }
+}
+
+#[test]
+fn l_is_a_multiple_of_4_and_not_44() {
+    for total in 0..200 {
+        let front = vital_signs_front([total, 99, 1, 0], &[]);
+        let legal = total >= 40 && total % 4 == 0 && total != 44;
+        assert_eq!(
+            judge(VITAL_SIGNS, &front[..16], 0),
+            if legal { Ok(Judgement::Waiting) } else { bad(21) },
+            "{total}"
+        );
+    }
+    assert_eq!(vital_signs(44, 0, &[]), bad(21));
+}
+
+#[test]
+fn k_is_0_exactly_if_l_is_40() {
+    for total in (40..400).step_by(4).filter(|&total| total != 44) {
+        for records in 0..40 {
+            let front = vital_signs_front([total, 99, records, 0], &[]);
+            let legal = records <= 32 && 8 * records <= total - 40 && (records == 0) == (total == 40);
+            let expected = if legal { Ok(Judgement::Waiting) } else { bad(22) };
+            assert_eq!(judge(VITAL_SIGNS, &front[..36], 0), expected, "{total} {records}");
+        }
+    }
+}
+
+#[test]
+fn demand_3_holds_as_for_dialect_1() {
+    // A last type 1, 3 or 4 that can't end at L is seen at its type; with a record behind it, it need not end there.
+    for (record_type, total) in [(1, 76), (3, 68), (4, 72)] {
+        let front = vital_signs_front([total, 99, 1, 0], &[record_type]);
+        assert_eq!(judge(VITAL_SIGNS, &front[..43], 0), Ok(Judgement::Waiting));
+        assert_eq!(judge(VITAL_SIGNS, &front, 0), bad(23), "{record_type}");
+        let front = vital_signs_front([total + 8, 99, 2, 0], &[record_type]);
+        assert_eq!(judge(VITAL_SIGNS, &front, 0), Ok(Judgement::Waiting), "{record_type}");
+    }
+}
+
+#[test]
+fn points_stay_with_kind_16_and_the_rest_is_read_of_the_kind_named() {
+    let bytes = padded(vital_signs_front([72, 99, 1, 0], &[1, 24]), 72);
+    assert_eq!(packet::header(17, &bytes).map(|header| (header.object_count, header.record_count)), Ok((99, 1)));
+    assert_eq!(packet::record(17, &bytes, 0).map(|record| record.record_type), Ok(1));
+    assert_eq!(packet::step(17, &bytes, 40).map(|(_, behind)| behind), Ok(72));
+    assert_eq!(packet::point(&bytes, 0), Err(5));
+    for kind in [0, 1, 2, 5, 6, 15, 16, 18, u32::MAX] {
+        assert_eq!(packet::header(kind, &bytes), Err(5));
+        assert_eq!(packet::record(kind, &bytes, 0), Err(5));
+        assert_eq!(packet::step(kind, &bytes, 40), Err(5));
+    }
+}
+
+#[test]
+fn refusal_1_admits_2() {
+    assert_eq!(judge(2, b"", 0), Ok(Judgement::Waiting));
+    assert_eq!(judge(3, b"", 0), Err(1));
+    assert_eq!(open_reading(3, b"", &mut []), Err(1));
+    assert_eq!(closed_reading(3, b"", &mut []), Err(1));
+}
+
+#[test]
+fn one_byte_string_is_a_packet_of_both_dialects() {
+    let bytes = padded(vital_signs_front([64, 99, 1, 0], &[2, 16]), 64);
+    let mut table = [0; 3];
+    for (dialect, kind) in [(MMWAVE, 16), (VITAL_SIGNS, 17)] {
+        assert_eq!(judge(dialect, &bytes, 0), whole(kind, 64));
+        let reading = closed_reading(dialect, &bytes, &mut table);
+        assert_eq!(reading, Ok(Reading { rows: 1, skipped: 0, next: 64, state: 2 }));
+        assert_eq!(table, [0, 64, kind]);
+    }
 }

@@ -142,9 +142,9 @@ pub struct Written {
 /// (and, in a U frame, whose accuracy in millimetres) counts for nothing.
 #[allow(missing_docs)]
 pub trait FieldSubject {
-    fn header(&self, packet: &[u8]) -> Header;
-    fn record(&self, packet: &[u8], index: usize) -> Record;
-    fn step(&self, packet: &[u8], place: usize) -> Step;
+    fn header(&self, kind: u32, packet: &[u8]) -> Header;
+    fn record(&self, kind: u32, packet: &[u8], index: usize) -> Record;
+    fn step(&self, kind: u32, packet: &[u8], place: usize) -> Step;
     fn point(&self, packet: &[u8], index: usize) -> Point;
     fn read_command(&self, bytes: &[u8]) -> Command;
     fn write_command(&self, output: &mut [u8], command: Command) -> Written;
@@ -183,8 +183,8 @@ fn written(answer: Result<usize, Refusal>) -> Written {
 }
 
 impl FieldSubject for Reference {
-    fn header(&self, packet: &[u8]) -> Header {
-        let answer = packet::header(packet).map(|header| Header {
+    fn header(&self, kind: u32, packet: &[u8]) -> Header {
+        let answer = packet::header(kind, packet).map(|header| Header {
             refusal: 0,
             version: header.version,
             total: header.total_length,
@@ -198,8 +198,8 @@ impl FieldSubject for Reference {
         either(answer, |refusal| Header { refusal, ..Header::default() })
     }
 
-    fn record(&self, packet: &[u8], index: usize) -> Record {
-        let answer = packet::record(packet, index_of(index)).map(|record| Record {
+    fn record(&self, kind: u32, packet: &[u8], index: usize) -> Record {
+        let answer = packet::record(kind, packet, index_of(index)).map(|record| Record {
             refusal: 0,
             tag: record.record_type,
             start: start_of(record.payload, packet),
@@ -208,8 +208,8 @@ impl FieldSubject for Reference {
         either(answer, |refusal| Record { refusal, ..Record::default() })
     }
 
-    fn step(&self, packet: &[u8], place: usize) -> Step {
-        match packet::step(packet, place) {
+    fn step(&self, kind: u32, packet: &[u8], place: usize) -> Step {
+        match packet::step(kind, packet, place) {
             Ok((record, behind)) => Step {
                 refusal: 0,
                 tag: record.record_type,
@@ -367,6 +367,6 @@ mod tests {
         let frame = b"!P000200000000Z\"\r\n";
         assert_eq!(Reference.read_data(frame), DataFrame { refusal: 0, kind: 2, start: 14, size: 2 });
         assert_eq!(Reference.read_data(&frame[1..]), DataFrame { refusal: 5, ..DataFrame::default() });
-        assert_eq!(Reference.step(frame, 7), Step { refusal: 5, next: 7, ..Step::default() });
+        assert_eq!(Reference.step(16, frame, 7), Step { refusal: 5, next: 7, ..Step::default() });
     }
 }

@@ -11,10 +11,15 @@ use crate::abi::{Reference, Subject};
 use crate::generate::demorad::{self, Values};
 use crate::generate::floats::float_bits;
 use crate::generate::random::Random;
-use crate::generate::{lent, mmwave, sirad};
-use crate::judgement::{MMWAVE, SIRAD};
+use crate::generate::{lent, mmwave, sirad, vital_signs};
+use crate::judgement::{MMWAVE, SIRAD, VITAL_SIGNS};
 use crate::reading::ROW;
 use crate::refusal::{Refusal, MAX_BYTES};
+
+/// The kinds that packets are read of.
+const PACKET_KINDS: [u32; 2] = [crate::mmwave::PACKET, crate::vital_signs::PACKET];
+/// Kinds that no packet is read of; the low bits of some are 16 or 17.
+const OTHER_KINDS: [u32; 12] = [0, 1, 2, 6, 15, 18, 19, 33, 272, 273, 0x0011_0000, u32::MAX];
 
 /// A run of seeds and what it counted so far.
 struct Run<'a> {
@@ -66,19 +71,46 @@ impl<'a> Run<'a> {
         Ok(())
     }
 
-    /// The header, the records by index and by place, the points.
+    /// The header, the records by index and by place, of each kind that packets are read of and of some other; the points.
     fn check_packet(&mut self, random: &mut Random, packet: &[u8]) -> Result<(), Difference> {
-        let header = self.check("header", packet, |subject| subject.header(packet), |answer| answer.refusal)?;
-        for index in (0..=header.records as usize + 1).chain([u32::MAX as usize, 1 << 32, usize::MAX]) {
-            self.check("record", packet, |subject| subject.record(packet, index), |answer| answer.refusal)?;
+        for kind in PACKET_KINDS {
+            let header = self.check_header(kind, packet)?;
+            for index in (0..=header.records as usize + 1).chain([u32::MAX as usize, 1 << 32, usize::MAX]) {
+                self.check_record(kind, packet, index)?;
+            }
+            for place in places(random, kind, packet, &header) {
+                self.check_step(kind, packet, place)?;
+            }
         }
-        for place in places(random, packet, &header) {
-            self.check("step", packet, |subject| subject.step(packet, place), |answer| answer.refusal)?;
-        }
-        for index in point_indexes(header.objects as usize) {
+        let other = random.pick(&OTHER_KINDS);
+        self.check_header(other, packet)?;
+        self.check_record(other, packet, random.below(3))?;
+        self.check_step(other, packet, 40)?;
+        let objects = Reference.header(PACKET_KINDS[0], packet).objects;
+        for index in point_indexes(objects as usize) {
             self.check("point", packet, |subject| subject.point(packet, index), |answer| answer.refusal)?;
         }
         Ok(())
+    }
+
+    fn check_header(&mut self, kind: u32, packet: &[u8]) -> Result<Header, Difference> {
+        let name = format!("header of kind {kind}");
+        self.check(&name, packet, |subject| subject.header(kind, packet), |answer| answer.refusal)
+    }
+
+    fn check_record(&mut self, kind: u32, packet: &[u8], index: usize) -> Result<(), Difference> {
+        let name = format!("record of kind {kind}");
+        let answer =
+            self.check(&name, packet, |subject| subject.record(kind, packet, index), |answer| answer.refusal)?;
+        if answer.refusal == 0 {
+            self.tally.count(format!("{name}, type {}", answer.tag.min(10)));
+        }
+        Ok(())
+    }
+
+    fn check_step(&mut self, kind: u32, packet: &[u8], place: usize) -> Result<(), Difference> {
+        let name = format!("step of kind {kind}");
+        self.check(&name, packet, |subject| subject.step(kind, packet, place), |answer| answer.refusal).map(drop)
     }
 
     /// One command as bytes.
@@ -149,29 +181,38 @@ pub fn compare_frames(subject: &dyn FieldSubject, first_seed: u64, frames: u64) 
 pub fn check_throughout(subject: &dyn FieldSubject, packet: &[u8]) -> Result<Tally, Difference> {
     let mut run = Run::new("check_throughout", subject);
     run.check_packet(&mut Random::new(1), packet)?;
-    for place in 0..packet.len() + 2 {
-        run.check("step", packet, |subject| subject.step(packet, place), |answer| answer.refusal)?;
+    for kind in OTHER_KINDS {
+        run.check_header(kind, packet)?;
+        run.check_record(kind, packet, 0)?;
+        run.check_step(kind, packet, 40)?;
     }
-    let objects = Reference.header(packet).objects as usize;
+    for place in 0..packet.len() + 2 {
+        PACKET_KINDS.into_iter().try_for_each(|kind| run.check_step(kind, packet, place))?;
+    }
+    let objects = Reference.header(PACKET_KINDS[0], packet).objects as usize;
     for index in 0..objects.min(packet.len() / 16) + 2 {
         run.check("point", packet, |subject| subject.point(packet, index), |answer| answer.refusal)?;
     }
     Ok(run.tally)
 }
 
-/// So many mmWave slices: the header, the records by index and by place, the points.
+/// So many slices, mmWave and vital signs by turns: the header, the records by index and by place, the points.
 pub fn compare_packets(subject: &dyn FieldSubject, first_seed: u64, packets: u64) -> Result<Tally, Difference> {
     let mut run = Run::new("compare_packets", subject);
     for seed in first_seed..first_seed + packets {
         run.seed = Some(seed);
         let mut random = Random::new(seed);
-        let packet = packet(&mut random);
-        let packet = lent(&mut random, MMWAVE, packet);
+        let dialect = if seed % 2 == 0 { MMWAVE } else { VITAL_SIGNS };
+        let packet = packet(&mut random, dialect);
+        let packet = lent(&mut random, dialect, packet);
         run.check_packet(&mut random, &packet)?;
     }
     run.seed = None;
-    run.check_packet(&mut Random::new(1), b"")?;
-    run.check_packet(&mut Random::new(1), &too_long(&mmwave::packet_of_points(&mut Random::new(1), &[[1.0; 4]])))?;
+    let points = mmwave::packet_of_points(&mut Random::new(1), &[[1.0; 4]]);
+    let vitals = vital_signs::monitor_packet(&mut Random::new(1), 0);
+    for slice in [Vec::new(), too_long(&points), too_long(&vitals), points, vitals] {
+        run.check_packet(&mut Random::new(1), &slice)?;
+    }
     Ok(run.tally)
 }
 
@@ -182,8 +223,12 @@ fn too_long(frame: &[u8]) -> Vec<u8> {
     bytes
 }
 
-/// A packet of any records, or one of points with more coordinates that are refused.
-fn packet(random: &mut Random) -> Vec<u8> {
+/// A packet of any records; in mmWave also one of points with more coordinates that are refused.
+fn packet(random: &mut Random, dialect: u32) -> Vec<u8> {
+    if dialect == VITAL_SIGNS {
+        let room = random.pick(&[40, 64, 128, 256, 512, 1024, 33_000]);
+        return vital_signs::packet(random, room).unwrap_or_default();
+    }
     if random.once_in(2) {
         let room = random.pick(&[64, 128, 256, 512, 1024, 33_000]);
         return mmwave::packet(random, room).unwrap_or_default();
@@ -203,8 +248,8 @@ fn coordinate(random: &mut Random) -> f32 {
 }
 
 /// Places where a record starts, and others.
-fn places(random: &mut Random, packet: &[u8], header: &Header) -> Vec<usize> {
-    let records = (0..header.records as usize).map(|index| Reference.record(packet, index));
+fn places(random: &mut Random, kind: u32, packet: &[u8], header: &Header) -> Vec<usize> {
+    let records = (0..header.records as usize).map(|index| Reference.record(kind, packet, index));
     let mut places: Vec<usize> =
         records.flat_map(|record| [record.start - 8, record.start]).map(|place| place as usize).collect();
     places.extend([0, 39, 40, 44, packet.len(), (1 << 32) + 40, usize::MAX]);

@@ -1,9 +1,8 @@
 //! mmWave packets, true ones and near misses.
 
 use super::floats::float_bits;
+use super::packets::{end_of, false_start, joined, Record, MAGIC};
 use super::random::Random;
-
-const MAGIC: [u8; 8] = [2, 1, 4, 3, 6, 5, 8, 7];
 
 /// A packet's parts before they are put together; each can be given a wrong value.
 #[derive(Clone, Debug)]
@@ -11,7 +10,7 @@ struct Plan {
     total: u32,
     objects: u32,
     count: u32,
-    records: Vec<(u32, u32, Vec<u8>)>,
+    records: Vec<Record>,
 }
 
 impl Plan {
@@ -45,24 +44,17 @@ impl Plan {
     }
 
     /// The plan of a packet with these records and the counts that belong to them.
-    fn around(objects: u32, records: Vec<(u32, u32, Vec<u8>)>) -> Plan {
-        let end = 40 + records.iter().map(|(_, _, payload)| 8 + payload.len()).sum::<usize>();
-        Plan { total: end.next_multiple_of(32) as u32, objects, count: records.len() as u32, records }
+    fn around(objects: u32, records: Vec<Record>) -> Plan {
+        let total = end_of(&records).next_multiple_of(32) as u32;
+        Plan { total, objects, count: records.len() as u32, records }
     }
 
     /// The bytes, padded up to the next multiple of 32.
     fn bytes(&self, random: &mut Random) -> Vec<u8> {
-        let mut bytes = MAGIC.to_vec();
         let (version, platform, frame, time) = (random.word(), 0x000A_6843, random.word() & 0xFFFF, random.word());
         let subframe = random.below(4) as u32;
-        for field in [version, self.total, platform, frame, time, self.objects, self.count, subframe] {
-            bytes.extend_from_slice(&field.to_le_bytes());
-        }
-        for (record_type, length, payload) in &self.records {
-            bytes.extend_from_slice(&record_type.to_le_bytes());
-            bytes.extend_from_slice(&length.to_le_bytes());
-            bytes.extend_from_slice(payload);
-        }
+        let header = [version, self.total, platform, frame, time, self.objects, self.count, subframe];
+        let mut bytes = joined(header, &self.records);
         let padded = bytes.len().next_multiple_of(32);
         let filler = random.pick(&[0, 0x0F, 0xFF, 2]);
         bytes.resize(padded, filler);
@@ -108,7 +100,7 @@ fn end_at_an_edge(random: &mut Random, plan: &mut Plan, room: usize) {
     let Some((_, _, last)) = plan.records.last() else {
         return;
     };
-    let start = 40 + plan.records.iter().map(|(_, _, payload)| 8 + payload.len()).sum::<usize>() - last.len();
+    let start = end_of(&plan.records) - last.len();
     let end = match random.below(3) {
         0 => start.next_multiple_of(32),
         1 => start.next_multiple_of(32) + 1,
@@ -172,21 +164,8 @@ pub(super) fn hostile(random: &mut Random, room: usize) -> Vec<u8> {
     match random.below(20) {
         // A true packet.
         0 => plan.bytes(random),
-        // The magic's first bytes everywhere.
-        1 => MAGIC[..random.within(1, 7)].repeat(random.within(1, 6)),
-        // Magics everywhere.
-        2 => MAGIC.repeat(random.within(1, 6)),
-        // A magic and then anything.
-        3 => {
-            let count = random.below(60);
-            MAGIC.into_iter().chain((0..count).map(|_| random.byte())).collect()
-        }
-        // A magic and then small numbers.
-        4 => {
-            let fields: Vec<u32> =
-                (0..random.within(1, 14)).map(|_| random.pick(&[0, 1, 2, 3, 6, 24, 64, 96])).collect();
-            MAGIC.into_iter().chain(fields.iter().flat_map(|field| field.to_le_bytes())).collect()
-        }
+        // A false start.
+        sort @ 1..5 => false_start(random, sort, &[0, 1, 2, 3, 6, 24, 64, 96]),
         // A packet that breaks off.
         5 => {
             let mut bytes = plan.bytes(random);

@@ -6,10 +6,12 @@
 pub mod demorad;
 pub mod floats;
 pub mod mmwave;
+mod packets;
 pub mod random;
 pub mod sirad;
+pub mod vital_signs;
 
-use crate::judgement::{MMWAVE, SIRAD};
+use crate::judgement::{MMWAVE, SIRAD, VITAL_SIGNS};
 use random::Random;
 
 /// How a capture is made.
@@ -46,6 +48,14 @@ impl Family {
             Family::Hostile => "hostile",
         }
     }
+}
+
+/// The dialects' names in commands and file names, each at its number.
+pub const DIALECT_NAMES: [&str; 3] = ["sirad", "mmwave", "vital-signs"];
+
+/// The dialect of this name.
+pub fn dialect_named(name: &str) -> Option<u32> {
+    (0..).zip(DIALECT_NAMES).find(|&(_, known)| known == name).map(|(dialect, _)| dialect)
 }
 
 /// A capture of at most `length` bytes, close to them where frames allow it.
@@ -106,17 +116,24 @@ fn hostile(random: &mut Random, dialect: u32, length: usize) -> Vec<u8> {
     let mut bytes = Vec::new();
     while bytes.len() < length {
         let room = length - bytes.len();
-        let piece = if dialect == SIRAD { sirad::hostile(random, room) } else { mmwave::hostile(random, room) };
-        bytes.extend(piece);
+        bytes.extend(hostile_piece(random, dialect, room));
     }
     bytes
 }
 
+fn hostile_piece(random: &mut Random, dialect: u32, room: usize) -> Vec<u8> {
+    match dialect {
+        SIRAD => sirad::hostile(random, room),
+        MMWAVE => mmwave::hostile(random, room),
+        _ => vital_signs::hostile(random, room),
+    }
+}
+
 fn frame_within(random: &mut Random, dialect: u32, room: usize) -> Option<Vec<u8>> {
-    if dialect == SIRAD {
-        sirad::frame(random, room)
-    } else {
-        mmwave::packet(random, room)
+    match dialect {
+        SIRAD => sirad::frame(random, room),
+        MMWAVE => mmwave::packet(random, room),
+        _ => vital_signs::packet(random, room),
     }
 }
 
@@ -134,7 +151,7 @@ pub fn lent(random: &mut Random, dialect: u32, mut frame: Vec<u8>) -> Vec<u8> {
             let count = random.within(1, 3);
             frame.extend((0..count).map(|_| random.pick(b"\x00 !\r\n\x02")));
         }
-        4 => frame = if dialect == SIRAD { sirad::hostile(random, 400) } else { mmwave::hostile(random, 400) },
+        4 => frame = hostile_piece(random, dialect, 400),
         _ => (),
     }
     frame
@@ -184,6 +201,26 @@ pub fn points(seed: u64, packets: usize) -> Vec<u8> {
     bytes
 }
 
+/// So many packets as a vital-signs monitor sends them, with noise between them. Every third is damaged, and in front of
+/// every fourth stands the start of one that breaks off.
+pub fn monitor(seed: u64, packets: u32) -> Vec<u8> {
+    let mut random = Random::new(seed);
+    let mut bytes = Vec::new();
+    for index in 0..packets {
+        bytes.extend(noise(&mut random, VITAL_SIGNS));
+        let mut packet = vital_signs::monitor_packet(&mut random, index);
+        if index % 3 == 2 {
+            // The fixed fields and the record count: any change there makes the packet bad.
+            damage(&mut random, &mut packet[28..40]);
+        }
+        if index % 4 == 3 {
+            bytes.extend_from_slice(&packet[..random.within(12, 39)]);
+        }
+        bytes.extend(packet);
+    }
+    bytes
+}
+
 fn point(random: &mut Random) -> [f32; 4] {
     let mut metres = |half_millimetres: usize| random.below(half_millimetres) as f32 / 2000.0;
     let (x, y, z, doppler) = (metres(24_000) - 6.0, metres(24_000), metres(8_000) - 2.0, metres(8_000) - 2.0);
@@ -193,7 +230,7 @@ fn point(random: &mut Random) -> [f32; 4] {
 #[cfg(test)]
 mod tests {
     use super::*;
-    use crate::judgement::{judge, Judgement};
+    use crate::judgement::{judge, Judgement, DIALECTS};
     use crate::reading::{closed_reading, Reading, ROW};
 
     fn rows(dialect: u32, bytes: &[u8]) -> (Reading, Vec<u32>) {
@@ -205,13 +242,14 @@ mod tests {
 
     #[test]
     fn a_seed_fixes_the_bytes() {
-        for dialect in [SIRAD, MMWAVE] {
+        for dialect in DIALECTS {
             for family in Family::ALL {
                 let first = capture(dialect, family, 42, 2000);
                 assert_eq!(first, capture(dialect, family, 42, 2000));
                 assert_ne!(first, capture(dialect, family, 43, 2000));
                 assert!(first.len() <= 2000);
                 assert_eq!(Family::named(family.name()), Some(family));
+                assert_eq!(dialect_named(DIALECT_NAMES[dialect as usize]), Some(dialect));
             }
         }
     }
@@ -222,10 +260,12 @@ mod tests {
             let bytes = capture(SIRAD, Family::Clean, seed, 700);
             let (reading, _) = rows(SIRAD, &bytes);
             assert_eq!(reading.skipped, bytes.iter().filter(|&&byte| byte == b' ').count());
-            let bytes = capture(MMWAVE, Family::Clean, seed, 3000);
-            let (reading, _) = rows(MMWAVE, &bytes);
-            assert_eq!(reading.skipped, 0, "seed {seed}");
-            assert!(reading.rows > 0);
+            for dialect in [MMWAVE, VITAL_SIGNS] {
+                let bytes = capture(dialect, Family::Clean, seed, 3000);
+                let (reading, _) = rows(dialect, &bytes);
+                assert_eq!(reading.skipped, 0, "seed {seed}");
+                assert!(reading.rows > 0);
+            }
         }
     }
 
@@ -246,7 +286,7 @@ mod tests {
             let expected = Judgement::Whole { kind: 16, length: bytes.len() };
             assert_eq!(judge(MMWAVE, &bytes, 0), Ok(expected));
             for index in 0.. {
-                let Ok(record) = crate::packet::record(&bytes, index) else { break };
+                let Ok(record) = crate::packet::record(16, &bytes, index) else { break };
                 types[record.record_type.min(10) as usize] += 1;
             }
         }
@@ -273,5 +313,49 @@ mod tests {
         let second = crate::packet::point(&bytes, 1).unwrap();
         assert_eq!((second.x, second.y, second.z), (1_000_000, 100, 0));
         assert_eq!(crate::packet::point(&mmwave::packet_of_points(&mut random, &[]), 0), Err(7));
+    }
+
+    #[test]
+    fn vital_signs_packets_of_each_type_and_of_both_dialects_are_made() {
+        let mut random = Random::new(6);
+        let (mut types, mut both, mut empty) = ([0; 5], 0, 0);
+        for _ in 0..1000 {
+            let bytes = vital_signs::packet(&mut random, 1024).unwrap();
+            let length = bytes.len();
+            assert_eq!(judge(VITAL_SIGNS, &bytes, 0), Ok(Judgement::Whole { kind: 17, length }));
+            both += i32::from(judge(MMWAVE, &bytes, 0) == Ok(Judgement::Whole { kind: 16, length }));
+            empty += i32::from(length == 40);
+            for index in 0.. {
+                let Ok(record) = crate::packet::record(17, &bytes, index) else { break };
+                types[record.record_type as usize] += 1;
+            }
+        }
+        assert!(types[1..].iter().all(|&count| count > 100), "{types:?}");
+        assert!(both > 50 && empty > 10, "{both} {empty}");
+        for room in [64, 96, 200, 1024] {
+            for _ in 0..100 {
+                let bytes = vital_signs::of_both(&mut random, room);
+                let length = bytes.len();
+                assert!(length <= room);
+                assert_eq!(judge(VITAL_SIGNS, &bytes, 0), Ok(Judgement::Whole { kind: 17, length }));
+                assert_eq!(judge(MMWAVE, &bytes, 0), Ok(Judgement::Whole { kind: 16, length }));
+            }
+        }
+    }
+
+    #[test]
+    fn a_monitor_sends_all_four_types() {
+        let mut random = Random::new(7);
+        let mut types = [0; 5];
+        for number in 0..40 {
+            let bytes = vital_signs::monitor_packet(&mut random, number);
+            assert_eq!(judge(VITAL_SIGNS, &bytes, 0), Ok(Judgement::Whole { kind: 17, length: bytes.len() }));
+            assert_eq!(crate::packet::header(17, &bytes).map(|header| header.frame_number), Ok(number));
+            for index in 0.. {
+                let Ok(record) = crate::packet::record(17, &bytes, index) else { break };
+                types[record.record_type as usize] += 1;
+            }
+        }
+        assert!(types[1..].iter().all(|&count| count > 5), "{types:?}");
     }
 }

@@ -28,10 +28,10 @@ impl Form {
 
     /// The kind of the frame that all of `bytes` are.
     pub fn is_frame(&self, bytes: &[u8]) -> Option<u32> {
-        if self.dialect == 0 {
-            sirad_kind(bytes)
-        } else {
-            is_packet(bytes).then_some(16)
+        match self.dialect {
+            0 => sirad_kind(bytes),
+            1 => is_packet(bytes).then_some(16),
+            _ => is_vital_signs_packet(bytes).then_some(17),
         }
     }
 
@@ -89,6 +89,7 @@ impl Form {
             match end {
                 ..=8 => 20,
                 16 => 21,
+                32 | 40 if self.dialect == 2 => 26,
                 36 => 22,
                 _ => match self.record_field(&bytes[..end]) {
                     Some((_, true)) => 23,
@@ -154,13 +155,14 @@ impl Form {
         if bytes.len() > 8 {
             frame = bytes[..bytes.len().min(40)].to_vec();
         }
+        let step = self.step();
         let (least, greatest) = match field(&frame, 12) {
             Some(total) => (total as usize, total as usize),
-            None => (64, 32_768),
+            None => (if self.dialect == 1 { 64 } else { 40 }, 32_768),
         };
-        let objects: Vec<u32> = choices(&frame, 28, &[0, 1, 2, 3]);
+        let objects: Vec<u32> = choices(&frame, 28, if self.dialect == 1 { &[0, 1, 2, 3] } else { &[99] });
         let counts: Vec<u32> = (0..=32).filter(|&count| agrees(&frame, 32, count)).collect();
-        for total in (least..=greatest).step_by(32).filter(|&total| agrees(&frame, 12, total as u32)) {
+        for total in (least..=greatest).step_by(step).filter(|&total| agrees(&frame, 12, total as u32)) {
             for &count in &counts {
                 for &objects in &objects {
                     let mut header = frame.clone();
@@ -186,7 +188,7 @@ impl Form {
         count: u32,
         objects: u32,
     ) -> Option<Vec<u8>> {
-        if bytes.len() >= total || !total.is_multiple_of(32) || total > 32_768 {
+        if bytes.len() >= total || !total.is_multiple_of(self.step()) || total > 32_768 {
             // Nothing of this length is a frame, or none that is longer than the bytes.
             return None;
         }
@@ -207,7 +209,7 @@ impl Form {
                     agrees(&frame, place, record_type).then_some((record_type, length))
                 })?,
             };
-            if !is_legal(record_type, length as u64, objects) {
+            if !self.is_legal(record_type, length as u64, objects) {
                 return None;
             }
             let end = place + 8 + length;
@@ -227,7 +229,24 @@ impl Form {
             place = end;
         }
         frame.resize(total, 0);
-        is_packet(&frame).then_some(frame)
+        self.is_frame(&frame).is_some().then_some(frame)
+    }
+
+    /// All lengths of the dialect's packets are multiples of this.
+    fn step(&self) -> usize {
+        if self.dialect == 1 {
+            32
+        } else {
+            4
+        }
+    }
+
+    fn is_legal(&self, record_type: u32, length: u64, objects: u32) -> bool {
+        if self.dialect == 1 {
+            is_legal(record_type, length, objects)
+        } else {
+            is_legal_vital_sign(record_type, length)
+        }
     }
 
     /// Any type and length of a record at `place` with which the records can end so that the total fits: tries all.
@@ -260,9 +279,9 @@ impl Form {
         (0..=most).rev().find(|&length| {
             let end = place + 8 + length;
             agrees(there, place + 4, length as u32)
-                && is_legal(record_type, length as u64, objects)
+                && self.is_legal(record_type, length as u64, objects)
                 && if behind == 0 {
-                    end.next_multiple_of(32) == total
+                    (if self.dialect == 1 { end.next_multiple_of(32) } else { end }) == total
                 } else {
                     self.record_that_fits(end, behind - 1, total, objects).is_some()
                 }
@@ -378,7 +397,7 @@ fn sirad_completed(bytes: &[u8]) -> Option<Vec<u8>> {
     Some(frame)
 }
 
-// mmWave from whole packets
+// Packets as a whole
 
 fn field(bytes: &[u8], place: usize) -> Option<u32> {
     let field = bytes.get(place..place.checked_add(4)?)?;
@@ -443,4 +462,36 @@ fn is_packet(bytes: &[u8]) -> bool {
         && bytes.starts_with(&MAGIC)
         && field(bytes, 12) == Some(bytes.len() as u32)
         && walk().is_some_and(|end| end.next_multiple_of(32) == bytes.len())
+}
+
+fn is_legal_vital_sign(record_type: u32, length: u64) -> bool {
+    match record_type {
+        1 => length == 24,
+        2 => length.is_multiple_of(4),
+        3 => length.is_multiple_of(16),
+        4 => length == 20,
+        _ => false,
+    }
+}
+
+/// All rules of paper 02 (i) on a whole packet: "L is exactly the end of the last record, at least 40, at most 32,768". What
+/// the paper infers of L and K is not asked.
+fn is_vital_signs_packet(bytes: &[u8]) -> bool {
+    let walk = || -> Option<usize> {
+        let mut rest = bytes.get(40..)?;
+        for _ in 0..field(bytes, 32).filter(|&count| count <= 32)? {
+            let (record_type, length) = (field(rest, 0)?, field(rest, 4)?);
+            rest = rest.get(8..)?.get(length as usize..)?;
+            if !is_legal_vital_sign(record_type, u64::from(length)) {
+                return None;
+            }
+        }
+        Some(bytes.len() - rest.len())
+    };
+    bytes.len() <= 32_768
+        && bytes.starts_with(&MAGIC)
+        && field(bytes, 12) == Some(bytes.len() as u32)
+        && field(bytes, 28) == Some(99)
+        && field(bytes, 36) == Some(0)
+        && walk() == Some(bytes.len())
 }
