@@ -14,6 +14,12 @@ ghost use Rattle.mmwave.specs.Internal.{settled, Settles, dialectOfKind};
 use form::Judgement;
 use mmwave::Header;
 use mmwave::PacketDialect;
+use mmwave_header::KIND;
+use mmwave_header::count_ok;
+use mmwave_header::kind_of;
+use mmwave_header::objects_ok;
+use mmwave_header::subframe_ok;
+use mmwave_header::total_ok;
 use mmwave_pieces::BAD_COUNT;
 use mmwave_pieces::BAD_FIXED;
 use mmwave_pieces::BAD_LENGTH;
@@ -22,14 +28,8 @@ use mmwave_pieces::BAD_TYPE;
 use mmwave_pieces::NO_MAGIC;
 use mmwave_pieces::judge_pieces;
 use mmwave_pieces::walk;
-use mmwave_rules::KIND;
-use mmwave_rules::count_ok;
-use mmwave_rules::kind_of;
 use mmwave_rules::length_ok;
-use mmwave_rules::objects_ok;
 use mmwave_rules::rule_of;
-use mmwave_rules::subframe_ok;
-use mmwave_rules::total_ok;
 use mmwave_rules::type_ok;
 
 // The number in four bytes that are there.

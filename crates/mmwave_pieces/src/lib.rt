@@ -12,13 +12,13 @@ use form::Judgement;
 use mmwave::Header;
 use mmwave::PacketDialect;
 use mmwave::Rule;
-use mmwave_rules::count_ok;
-use mmwave_rules::kind_of;
+use mmwave_header::count_ok;
+use mmwave_header::kind_of;
+use mmwave_header::objects_ok;
+use mmwave_header::subframe_ok;
+use mmwave_header::total_ok;
 use mmwave_rules::length_ok;
-use mmwave_rules::objects_ok;
 use mmwave_rules::rule_of;
-use mmwave_rules::subframe_ok;
-use mmwave_rules::total_ok;
 use mmwave_rules::type_ok;
 
 // Reasons (paper 01, "Judging a place"; paper 02, (i)).

@@ -1,7 +1,7 @@
 -- One test after another, as the definition has them.
 use Rattle.mmwave.proofs.RuleLaws.{mmwave-ragged, mmwave-short, mmwave-long}
-use Rattle.mmwave_rules.proofs.mmwave_total.Statement.{statement}
-use Rattle.mmwave_rules.proofs.mmwave_total.Tie as tie
+use Rattle.mmwave_header.proofs.mmwave_total.Statement.{statement}
+use Rattle.mmwave_header.proofs.mmwave_total.Tie as tie
 
 returns : tie.Need-returns
 returns c = mmwave-ragged _ (c .if1 .taken)

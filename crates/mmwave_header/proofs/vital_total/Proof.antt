@@ -1,7 +1,7 @@
 -- One test after another, as the definition has them.
 use Rattle.mmwave.proofs.RuleLaws.{vital-ragged, vital-half, vital-short, vital-long}
-use Rattle.mmwave_rules.proofs.vital_total.Statement.{statement}
-use Rattle.mmwave_rules.proofs.vital_total.Tie as tie
+use Rattle.mmwave_header.proofs.vital_total.Statement.{statement}
+use Rattle.mmwave_header.proofs.vital_total.Tie as tie
 
 returns : tie.Need-returns
 returns c = vital-ragged _ (c .if1 .taken)

@@ -1,8 +1,8 @@
 -- One test after another, as the definition has them.
 use Rattle.mmwave.proofs.RuleLaws.{count-many, count-tight, count-some, count-none}
 use borrow.Author.Needs.{needs}
-use Rattle.mmwave_rules.proofs.count_ok.Statement.{statement}
-use Rattle.mmwave_rules.proofs.count_ok.Tie as tie
+use Rattle.mmwave_header.proofs.count_ok.Statement.{statement}
+use Rattle.mmwave_header.proofs.count_ok.Tie as tie
 
 returns : tie.Need-returns
 returns c = count-many _ _ _ (c .if1 .taken)

@@ -1,8 +1,8 @@
 -- A multiple of 4, and then one arm for each dialect.
 use Rattle.mmwave.proofs.RuleLaws.{total-ragged, total-mmwave, total-vital}
 use borrow.Author.Needs.{needs}
-use Rattle.mmwave_rules.proofs.total_ok.Statement.{statement}
-use Rattle.mmwave_rules.proofs.total_ok.Tie as tie
+use Rattle.mmwave_header.proofs.total_ok.Statement.{statement}
+use Rattle.mmwave_header.proofs.total_ok.Tie as tie
 
 returns : tie.Need-returns
 returns c = total-ragged _ _ (c .if1 .taken)
