@@ -14,7 +14,7 @@ pub fn case_end(input: &[u8], at: usize) -> usize
     if rest < 4 {
         return 0;
     }
-    let size = digits::word_at(input, at) as usize;
+    let size = numbers::word_at(input, at) as usize;
     if rest - 4 < size {
         return 0;
     }

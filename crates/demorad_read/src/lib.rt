@@ -51,7 +51,7 @@ fn framing_of(bytes: &[u8]) -> u32
     if bytes.len() < 4 {
         return TOO_SHORT;
     }
-    let header = digits::word_at(bytes, 0);
+    let header = numbers::word_at(bytes, 0);
     let rest = rest_of(header);
     if rest != 0 {
         return REST_BIT_SET;
@@ -76,7 +76,7 @@ fn payload(bytes: &[u8], count: usize) -> [u32; 30]
     let mut at: usize = 4;
     let mut i: usize = 0;
     while i < count {
-        words[i] = digits::word_at(bytes, at);
+        words[i] = numbers::word_at(bytes, at);
         at += 4;
         i += 1;
     }
@@ -103,7 +103,7 @@ pub fn read_command(bytes: &[u8]) -> Command
     if unframed != 0 {
         return refused(unframed);
     }
-    let header = digits::word_at(bytes, 0);
+    let header = numbers::word_at(bytes, 0);
     let code = code_of(header);
     let length = length_of(header);
     let count = length - 1;

@@ -27,7 +27,7 @@ fn put_payload(out: &mut [u8], n: usize, words: [u32; 30])
     let mut at: usize = 4;
     let mut i: usize = 0;
     while i < n {
-        digits::put_word(out, at, words[i]);
+        numbers::put_word(out, at, words[i]);
         at += 4;
         i += 1;
     }
@@ -54,7 +54,7 @@ pub fn write_command(out: &mut [u8], rd: bool, code: u32, count: u32, words: [u3
         };
     }
     let header = header_word(rd, code, count);
-    digits::put_word(out, 0, header);
+    numbers::put_word(out, 0, header);
     put_payload(out, n, words);
     Written { refusal: 0, size }
 }

@@ -1,14 +1,11 @@
-// Classes of bytes; numbers as bytes, hex and little-endian, both ways.
+// Classes of bytes, and single hex digits both ways. The definitions of numbers as bytes and of stores stand here too, with their laws;
+// `numbers` and `stores` have the code.
 
 ghost use mathlib.Core.Path.{_≡_};
 ghost use mathlib.Core.Bool.{_&&_, _||_};
-ghost use mathlib.Core.List.{[], _∷_};
-ghost use Prim.Native.Nat.{_+_, _%_, _≤_, min};
-ghost use lib.ListN.{length};
+ghost use Prim.Native.Nat.{_%_};
 ghost use Rattle.digits.specs.Bytes.{within, isHex, isCharacter};
-ghost use Rattle.digits.specs.Hex.{digit, glyph, hexAt, hexDigits};
-ghost use Rattle.digits.specs.LittleEndian.{fromLittle, wordAt};
-ghost use Rattle.digits.specs.Stores.{storedWithin, wordStored};
+ghost use Rattle.digits.specs.Hex.{digit, glyph};
 
 // The refusal of every writer whose output is too short (paper 01, "Refusal numbers").
 pub const OUTPUT_TOO_SHORT: u32 = 51;
@@ -17,9 +14,6 @@ pub const OUTPUT_TOO_SHORT: u32 = 51;
 const FIRST_CHARACTER: u8 = 34;
 
 const LAST_CHARACTER: u8 = 254;
-
-// As many hex digits as 32 bits take.
-const MOST_DIGITS: usize = 8;
 
 // What a writer answers: the refusal number (0: none) and the bytes produced.
 #[repr(C)]
@@ -88,102 +82,4 @@ pub fn glyph_of(v: u32) -> u8
         return 48 + d;
     }
     55 + d
-}
-
-// -- Hex numbers
-
-fn least(a: usize, b: usize) -> usize
-    ensures { λ r. ⌜ r ≡ min a b ⌝ }
-{
-    if a < b {
-        return a;
-    }
-    b
-}
-
-fn hex_from(s: &[u8], at: usize, n: usize) -> u32
-    requires { ⌜ (n ≤ 8) × (at + n ≤ length (now s)) ⌝ }
-    ensures { λ r. ⌜ r ≡ hexAt n at (now (s .entry)) ⌝ }
-{
-    let mut v: u32 = 0;
-    let mut i: usize = 0;
-    while i < n {
-        let d = digit_of(s[at + i]);
-        v = v * 16 + d as u32;
-        i = i + 1;
-    }
-    v
-}
-
-// The number of the n digits from an offset on, at most eight; of fewer where the bytes end before.
-// `hex_at(b"!R0102", 2, 4)` is 258.
-pub fn hex_at(s: &[u8], at: usize, n: usize) -> u32
-    ensures { λ r. ⌜ r ≡ hexAt (min n 8) at (now (s .entry)) ⌝ }
-{
-    if s.len() < at {
-        return 0;
-    }
-    let digits = least(n, MOST_DIGITS);
-    let count = least(digits, s.len() - at);
-    hex_from(s, at, count)
-}
-
-// Lays the lowest n digits of a number over the buffer at an offset; changes nothing where they do not fit.
-// `put_hex(out, 2, 4, 258)` stores `0102`.
-pub fn put_hex(out: &mut [u8], at: usize, n: usize, v: u32)
-    ensures { λ r. ⌜ now (out .exit) ≡ storedWithin (now (out .entry)) at (hexDigits n v) ⌝ }
-{
-    if out.len() < at {
-        return;
-    }
-    if out.len() - at < n {
-        return;
-    }
-    let mut rest = v;
-    let mut i = n;
-    while 0 < i {
-        i = i - 1;
-        out[at + i] = glyph_of(rest);
-        rest = rest / 16;
-    }
-}
-
-// -- 32-bit numbers
-
-// The number of four bytes, least significant first.
-pub fn join(a: u8, b: u8, c: u8, d: u8) -> u32
-    ensures { λ r. ⌜ r ≡ fromLittle (a ∷ b ∷ c ∷ d ∷ []) ⌝ }
-{
-    let upper = c as u32 + 256 * (d as u32);
-    let middle = b as u32 + 256 * upper;
-    a as u32 + 256 * middle
-}
-
-// The 32-bit number at an offset; 0 where fewer than four bytes are there.
-pub fn word_at(s: &[u8], at: usize) -> u32
-    ensures { λ r. ⌜ r ≡ wordAt (now (s .entry)) at ⌝ }
-{
-    if s.len() < at {
-        return 0;
-    }
-    if s.len() - at < 4 {
-        return 0;
-    }
-    join(s[at], s[at + 1], s[at + 2], s[at + 3])
-}
-
-// Lays a 32-bit number over the buffer at an offset; changes nothing where it does not fit.
-pub fn put_word(out: &mut [u8], at: usize, v: u32)
-    ensures { λ r. ⌜ now (out .exit) ≡ wordStored (now (out .entry)) at v ⌝ }
-{
-    if out.len() < at {
-        return;
-    }
-    if out.len() - at < 4 {
-        return;
-    }
-    out[at] = (v % 256) as u8;
-    out[at + 1] = (v / 256 % 256) as u8;
-    out[at + 2] = (v / 256 / 256 % 256) as u8;
-    out[at + 3] = (v / 256 / 256 / 256 % 256) as u8;
 }

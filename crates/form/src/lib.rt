@@ -69,7 +69,7 @@ pub fn number(s: &[u8], at: usize) -> Judgement
     if s.len() - at < 4 {
         return Judgement::Waiting;
     }
-    let v = digits::join(s[at], s[at + 1], s[at + 2], s[at + 3]);
+    let v = numbers::join(s[at], s[at + 1], s[at + 2], s[at + 3]);
     let end = at + 4;
     Judgement::Whole(v, end)
 }

@@ -37,14 +37,14 @@ fn field(s: &[u8], at: usize) -> u32
     requires { ⌜ at + 4 ≤ length (now s) ⌝ }
     ensures { λ r. ⌜ r ≡ littleAt 4 at (now (s .entry)) ⌝ }
 {
-    digits::join(s[at], s[at + 1], s[at + 2], s[at + 3])
+    numbers::join(s[at], s[at + 1], s[at + 2], s[at + 3])
 }
 
 // Whether a, b, c, d are w, x, y, z: compared as one number.
 fn same_four(a: u8, b: u8, c: u8, d: u8, w: u8, x: u8, y: u8, z: u8) -> bool
     ensures { λ r. ⌜ (r ≡ true → (a ≡ w) × (b ≡ x) × (c ≡ y) × (d ≡ z)) × (r ≡ false → (a ≡ w) × (b ≡ x) × (c ≡ y) × (d ≡ z) → ⊥) ⌝ }
 {
-    digits::join(a, b, c, d) == digits::join(w, x, y, z)
+    numbers::join(a, b, c, d) == numbers::join(w, x, y, z)
 }
 
 // Whether the bytes begin with the magic.

@@ -48,7 +48,7 @@ pub fn payload_length(s: &[u8], p: usize) -> u32
     if s.len() < p {
         return 0;
     }
-    digits::word_at(s, p + LENGTH_FIELD)
+    numbers::word_at(s, p + LENGTH_FIELD)
 }
 
 // The offset right behind the record at `p`.
@@ -112,14 +112,14 @@ fn read_header(s: &[u8]) -> PacketHeader
     ensures { λ r. ⌜ r ≡ headerShown (now (s .entry)) ⌝ }
 {
     let fields = Header {
-        version: digits::word_at(s, Header::VERSION),
-        total: digits::word_at(s, Header::TOTAL),
-        platform: digits::word_at(s, Header::PLATFORM),
-        frame: digits::word_at(s, Header::FRAME),
-        time: digits::word_at(s, Header::TIME),
-        objects: digits::word_at(s, Header::OBJECTS),
-        records: digits::word_at(s, Header::RECORDS),
-        subframe: digits::word_at(s, Header::SUBFRAME),
+        version: numbers::word_at(s, Header::VERSION),
+        total: numbers::word_at(s, Header::TOTAL),
+        platform: numbers::word_at(s, Header::PLATFORM),
+        frame: numbers::word_at(s, Header::FRAME),
+        time: numbers::word_at(s, Header::TIME),
+        objects: numbers::word_at(s, Header::OBJECTS),
+        records: numbers::word_at(s, Header::RECORDS),
+        subframe: numbers::word_at(s, Header::SUBFRAME),
     };
     PacketHeader { refusal: 0, fields }
 }
@@ -161,7 +161,7 @@ fn record_from(s: &[u8], p: usize) -> PacketRecord
     requires { ⌜ p ≤ 32768 ⌝ }
     ensures { λ r. ⌜ r ≡ recordShown (now (s .entry)) p ⌝ }
 {
-    let tag = digits::word_at(s, p);
+    let tag = numbers::word_at(s, p);
     let length = payload_length(s, p) as usize;
     let start = p + RECORD_HEADER;
     PacketRecord {
@@ -177,7 +177,7 @@ fn read_record(s: &[u8], index: usize) -> PacketRecord
     requires { ⌜ Walkable (now s) (recordsOf (now s)) 40 ⌝ }
     ensures { λ r. ⌜ r ≡ recordRead (now (s .entry)) index ⌝ }
 {
-    let records = digits::word_at(s, Header::RECORDS) as usize;
+    let records = numbers::word_at(s, Header::RECORDS) as usize;
     if records <= index {
         return no_record(NO_SUCH_INDEX);
     }
@@ -240,7 +240,7 @@ fn read_step(s: &[u8], at: usize) -> PacketStep
     requires { ⌜ Walkable (now s) (recordsOf (now s)) 40 ⌝ }
     ensures { λ r. ⌜ r ≡ stepRead (now (s .entry)) at ⌝ }
 {
-    let records = digits::word_at(s, Header::RECORDS);
+    let records = numbers::word_at(s, Header::RECORDS);
     if starts(s, Header::SIZE, records, at) {
         return step_from(s, at);
     }

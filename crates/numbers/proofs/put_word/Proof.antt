@@ -2,10 +2,10 @@
 use mathlib.Core.Path.{sym}
 use native.Mathlib.Omega.{arith}
 use lib.ListN.{length-set}
 use Rattle.digits.proofs.StoreLaws.{word-unfit, four-stores}
 use borrow.Author.Needs.{needs}
-use Rattle.digits.proofs.put_word.Statement.{statement}
-use Rattle.digits.proofs.put_word.Tie as tie
+use Rattle.numbers.proofs.put_word.Statement.{statement}
+use Rattle.numbers.proofs.put_word.Tie as tie
 
 returns : tie.Need-returns
 returns c = let a = c .before .args in sym (word-unfit (a .out .now) (a .at) (a .v) (omega arith))

@@ -1,9 +1,9 @@
 -- The Horner sum of the code is the definition, unfolded.
 use native.Mathlib.Omega.{arith}
 use Rattle.digits.specs.LittleEndian.{fromLittle}
 use borrow.Author.Needs.{needs}
-use Rattle.digits.proofs.join.Statement.{statement}
-use Rattle.digits.proofs.join.Tie as tie
+use Rattle.numbers.proofs.join.Statement.{statement}
+use Rattle.numbers.proofs.join.Tie as tie
 
 mul-upper : tie.Need-mul-upper
 mul-upper c = search needs

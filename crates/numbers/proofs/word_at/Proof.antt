@@ -1,10 +1,10 @@
 -- Each return is one law: no four bytes, no four bytes, the four bytes joined.
 use mathlib.Core.Path.{_∙_, sym}
 use native.Mathlib.Omega.{arith}
 use Rattle.digits.proofs.LittleEndianLaws.{word-missing, word-joined}
 use borrow.Author.Needs.{needs}
-use Rattle.digits.proofs.word_at.Statement.{statement}
-use Rattle.digits.proofs.word_at.Tie as tie
+use Rattle.numbers.proofs.word_at.Statement.{statement}
+use Rattle.numbers.proofs.word_at.Tie as tie
 
 returns : tie.Need-returns
 returns c = sym (word-missing _ _ (omega arith))

@@ -3,11 +3,11 @@ use mathlib.Core.Path.{_≡_, refl, sym, _∙_}
 use Prim.Native.Nat.{_≤_}
 use native.Mathlib.Omega.{arith}
 use lib.ListN.{length, length-set}
 use Rattle.digits.specs.Hex.{hexDigits}
 use Rattle.digits.specs.Stores.{stored}
 use Rattle.digits.proofs.HexSteps.{digit-next, digit-end, digits-fit, digits-unfit}
-use Rattle.digits.proofs.put_hex.Statement.{statement}
-use Rattle.digits.proofs.put_hex.Tie as tie
+use Rattle.numbers.proofs.put_hex.Statement.{statement}
+use Rattle.numbers.proofs.put_hex.Tie as tie
 
 abbrev Inv-loop : tie.InvT-loop
 Inv-loop out₀ at n v rest₀ i₀ out rest i =
