@@ -31,10 +31,11 @@ use Rattle.reading.proofs.Resuming as resuming
 use Rattle.reading.proofs.Rows as rows
 use Rattle.reading.proofs.LeftmostLaws as leftmost
 use Rattle.reading.proofs.CourseLaws as courses
-use Rattle.sirad.specs.Sirad.{sirad, body, number, lay}
-use Rattle.sirad.specs.Rows.{classes, characters}
+use Rattle.sirad.specs.Sirad.{sirad, body, number, row, run, lay, block}
+use Rattle.sirad.specs.Rows.{characters, blocks}
 use Rattle.sirad.proofs.Starts.{waiting-starts-once}
 use Rattle.sirad.proofs.TableLaws.{table-is-form}
+use Rattle.sirad.proofs.BlockLaws.{targets-by-blocks, judged-17}
 use Rattle.sirad.proofs.Theorems.{sirad-waits}
 use Rattle.mmwave.specs.declared.PacketDialect.the-variants.{MmWave, VitalSigns}
 use Rattle.mmwave.specs.Profile.{countOk, fits, possible, typeOk, lengthOk}
@@ -52,7 +53,7 @@ use Rattle.units.specs.Units.{decibels, centidegrees, millimetres}
 use Rattle.capture.specs.Demands as say
 use Rattle.capture.specs.Demands.{StandsIn, judgedAt, EndsInsideField}
 use Rattle.capture.specs.Dialects.{dialectOf, formOf, judgeOf, startOf}
-use Rattle.capture.specs.Edges.{edges, vitalEdges}
+use Rattle.capture.specs.Edges.{edges, vitalEdges, blockEdges}
 use Rattle.capture.specs.Entries.{maxBytes, verdict, verdictNumbers, readAnswer, readLeaves}
 use Rattle.capture.specs.Lines.{closedRows, emptyPart, chosen, partOf}
 use Rattle.capture.specs.declared.Asked.the-variants.{Known, Unknown}
@@ -99,6 +100,13 @@ none-alike d bs = (
 
 pub sirad-frames : say.SiradFrames
 sirad-frames = table-is-form
+
+pub target-frames : say.TargetFrames
+target-frames = targets-by-blocks
+
+pub broken-blocks : say.BrokenBlocks
+unfolding formOf
+broken-blocks = judged-17
 
 pub packet-frames : say.PacketFrames
 packet-frames d = frame-exactly-if-packet (profileOf d) (sound-of d) (sentencesOf d) (says-of d)
@@ -352,7 +360,7 @@ sirad-open-is-closed bs room = leftmost.open-is-closed (judgeOf Sirad) (lawful-o
 
 pub edges-hold : say.EdgesHold
 unfolding edges formOf profileOf toLittle fromLittle digit _>>=_ judge marker free frees countOk fits possible typeOk lengthOk
-    magic entry last records counted packet mmWave totalLegal perObject payloadRule sirad body number lay classes
+    magic entry last records counted packet mmWave totalLegal perObject payloadRule sirad body number row run
     characters millimetres decibels centidegrees significand scale nearest
 edges-hold = refl
 
@@ -360,3 +368,7 @@ pub vital-edges-hold : say.VitalEdgesHold
 unfolding vitalEdges formOf profileOf toLittle fromLittle _>>=_ judge marker free frees countOk fits possible typeOk lengthOk
     magic entry last records counted packet mmWave totalLegal perObject payloadRule vitalSigns vitalTotal vitalRule
 vital-edges-hold = refl
+
+pub block-edges-hold : say.BlockEdgesHold
+unfolding blockEdges formOf _>>=_ judge sirad body row run lay block blocks
+block-edges-hold = refl

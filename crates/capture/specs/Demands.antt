@@ -21,13 +21,13 @@ use Rattle.reading.specs.Resuming.{joined, shifted}
 use Rattle.reading.specs.Reading.{Reading, reading, flat, rowWidth, lengths, stateFull, stateEnd}
 use Rattle.reading.specs.declared.Row.{Row}
 use Rattle.sirad.specs.Sirad.{sirad}
-use Rattle.sirad.specs.Table.{TableFrame}
+use Rattle.sirad.specs.Table.{TableFrame, BlockFrame, BrokenBlock}
 use Rattle.mmwave.specs.declared.PacketDialect.{PacketDialect}
 use Rattle.mmwave.specs.Packet.{packet}
 use Rattle.mmwave.specs.Paper.{vitalSays, Packet, EndsInField}
 use Rattle.mmwave.specs.Dialects.{profileOf, sentencesOf}
 use Rattle.capture.specs.Dialects.{dialectOf, formOf, judgeOf}
-use Rattle.capture.specs.Edges.{Line, resultOf, edges, vitalEdges}
+use Rattle.capture.specs.Edges.{Line, resultOf, edges, vitalEdges, blockEdges}
 use Rattle.capture.specs.Entries.{maxBytes, verdict, verdictNumbers, readAnswer, readLeaves}
 use Rattle.capture.specs.Lines.{rowPart, emptyPart, partOf}
 use Rattle.capture.specs.declared.Asked.{Asked}
@@ -85,6 +85,15 @@ RefusalChangesNothing =
 -- the SiRad frames are those of paper 01's table
 abbrev pub SiradFrames : Type 0
 SiradFrames = (kind : ℕ) (bs : List ℕ) → Frame sirad kind bs ↔ TableFrame kind bs
+
+-- the T frames are those of which each block is a target by its classes, or fourteen bytes of value 0 (paper 02, (ii))
+abbrev pub TargetFrames : Type 0
+TargetFrames = (bs : List ℕ) → Frame sirad 4 bs ↔ BlockFrame bs
+
+-- bytes are judged bad with 17 exactly if the first byte of a T block commits it to the value 0 and a later byte of it breaks it, all
+-- before it being fine (paper 02, (ii))
+abbrev pub BrokenBlocks : Type 0
+BrokenBlocks = (bs : List ℕ) → (judgeOf Sirad bs ≡ Bad 17) ↔ ((q : ℕ) × (j : ℕ) × BrokenBlock bs q j)
 
 -- the frames of a packet dialect are the packets of the papers' sentences on it, with its kind
 abbrev pub PacketFrames : Type 0
@@ -243,7 +252,7 @@ RefusedLineIsEmpty =
     → ((readAnswer (dialectOf number) closed main room .refusal ≡ 0) × (readAnswer (dialectOf number) closed standby room .refusal ≡ 0)
     → ⊥) → partOf (dialectOf number) main standby ≡ emptyPart
 
--- -- Values at the edges (paper 01; paper 02, (i))
+-- -- Values at the edges (paper 01; paper 02, (i) and (ii))
 
 -- the rules answer as the lines say
 abbrev pub Hold : List Line → Type 0
@@ -253,6 +262,10 @@ Hold lines = map (λ (l : Line). resultOf (l .question)) lines ≡ map (λ (l : 
 abbrev pub EdgesHold : Type 0
 EdgesHold = Hold edges
 
--- so does every line on paper 02's numbers
+-- so does every line on paper 02's numbers for vital signs
 abbrev pub VitalEdgesHold : Type 0
 VitalEdgesHold = Hold vitalEdges
+
+-- and for empty blocks
+abbrev pub BlockEdgesHold : Type 0
+BlockEdgesHold = Hold blockEdges

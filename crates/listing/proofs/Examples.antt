@@ -2,8 +2,8 @@
 use mathlib.Core.Path.{_≡_, refl}
 use Rattle.digits.specs.Hex.{digit}
 use Rattle.form.specs.Form.{judge, _>>=_}
-use Rattle.sirad.specs.Rows.{classes, characters}
-use Rattle.sirad.specs.Sirad.{sirad, body, number, lay}
+use Rattle.sirad.specs.Rows.{characters}
+use Rattle.sirad.specs.Sirad.{sirad, body, number, row, run}
 use Rattle.reading.specs.Reading.{read}
 use Rattle.capture.specs.Dialects.{formOf}
 use Rattle.capture.specs.declared.Dialect.the-variants.{Sirad}
@@ -15,5 +15,5 @@ use Rattle.listing.specs.Example.{exampleInput, exampleOutput}
 -- paper 01's 25 bytes have paper 01's four lines
 pub example-listed : listing Sirad exampleInput ≡ exampleOutput
 unfolding listing listed closedReading headerLine rowLines rowLine endLine fields field decimal decimals width read judge formOf sirad
-    _>>=_ body number digit lay classes characters
+    _>>=_ body number digit row run characters
 example-listed = refl

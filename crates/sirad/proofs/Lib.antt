@@ -3,6 +3,7 @@ pub mod Numbers
 pub mod FrameLaws
 pub mod RowLaws
 pub mod TableLaws
+pub mod BlockLaws
 pub mod Theorems
 pub mod Starts
 pub mod Reasons

@@ -2,57 +2,24 @@
 -- class, with the reason of that class.
 use mathlib.Core.Bool.{Bool, true, false, cond}
 use mathlib.Core.Path.{_≡_, refl, sym, ap, subst, _∙_}
-use mathlib.Core.List.{List, [], _∷_, _++_}
+use mathlib.Core.List.{List, [], _∷_}
 use mathlib.Core.Logic.{_↔_}
-use Prim.Native.Nat.{ℕ, zero, suc, _+_, _*_, _<_, _≤_}
+use Prim.Native.Nat.{ℕ, zero, suc, _+_, _<_, _≤_}
 use native.Mathlib.Nat.{add-zero}
 use native.Mathlib.Omega.{arith}
 use borrow.Author.Tests.{eqb-true, eqb-false}
 use lib.Dec.{eqb}
-use lib.ListN.{length, getD, take, replicate}
-use Rattle.digits.specs.Bytes.{isHex}
-use Rattle.digits.specs.Hex.{digit, hexFrom, hexAt}
+use lib.ListN.{length, getD, take}
+use Rattle.digits.specs.Hex.{hexFrom, hexAt}
 use Rattle.digits.proofs.Choices.{test}
-use Rattle.form.specs.declared.Judgement.{Judgement}
 use Rattle.form.specs.declared.Judgement.the-variants.{Bad, Waiting}
-use Rattle.form.specs.Form.{_>>=_, judge}
-use Rattle.sirad.specs.declared.Class.{Class}
-use Rattle.sirad.specs.declared.Class.the-variants.{Hex}
-use Rattle.sirad.specs.declared.Kind.the-variants.{Sized, Targets, Status, Flags}
-use Rattle.sirad.specs.Classes.{accepts, reason}
-use Rattle.sirad.specs.Rows.{classes, dataPieces, rPieces, rowOf}
-use Rattle.sirad.specs.Sirad.{lay, row, number, sized, kindOf, body, sirad}
+use Rattle.form.specs.Form.{judge}
+use Rattle.sirad.specs.Classes.{Class, accepts, reason}
+use Rattle.sirad.specs.Sirad.{lay, sirad}
 use Rattle.sirad.specs.Table.{identifier, total, classAt, FirstFails, Refused, no-start, no-identifier, no-member}
-use Rattle.sirad.proofs.FrameLaws.{judge-none, judge-no-start, judge-start, judge-body, judge-unknown}
-use Rattle.sirad.proofs.RowLaws.{not-identifier, identify, unknown, named-there}
+use Rattle.sirad.proofs.FrameLaws.{judge-none, judge-no-start, judge-start, judge-unknown}
+use Rattle.sirad.proofs.RowLaws.{along, not-identifier, identify, unknown, named-there}
 use Rattle.sirad.proofs.TableLaws.{column, Shape, shape}
-
--- -- The judgement along a row
-
-number-laid : (w : ℕ) (cs : ℕ → List Class) (n v at : ℕ) (bs : List ℕ)
-    → judge (number n v >>= (λ m. lay (cs m) w)) at bs ≡ judge (lay (replicate n Hex ++ cs (hexFrom v (take n bs))) w) at bs
-unfolding number lay judge hexFrom _>>=_
-number-laid w cs zero v at bs = refl
-number-laid w cs (suc n) v at [] = refl
-number-laid w cs (suc n) v at (b ∷ bs) =
-    ap (λ (j : Judgement). cond (isHex b) j (Bad 12)) (number-laid w cs n (v * 16 + digit b) (at + 1) bs)
-
-sized-laid : (kind at : ℕ) (bs : List ℕ) → judge (sized kind) at bs ≡ judge (row (rPieces (hexFrom 0 (take 4 bs))) kind) at bs
-unfolding classes
-sized-laid kind at bs = number-laid kind (λ n. classes (dataPieces n)) 4 0 at bs
-
--- bytes with the start marker and the identifier of a kind are judged along the row of that kind
-along : (kind b c : ℕ) (bs : List ℕ) → 1 ≤ kind → kind ≤ 6 → b ≡ 33 → c ≡ identifier kind
-    → judge sirad 0 (b ∷ c ∷ bs) ≡ judge (row (rowOf kind (hexFrom 0 (take 4 bs))) kind) 2 bs
-unfolding body
-along zero b c bs l m s e = absurd (omega arith)
-along (suc zero) b c bs l m s e = judge-body (b ∷ c ∷ bs) (omega arith) s (Sized 1) (ap kindOf e) refl ∙ sized-laid 1 2 bs
-along (suc (suc zero)) b c bs l m s e = judge-body (b ∷ c ∷ bs) (omega arith) s (Sized 2) (ap kindOf e) refl ∙ sized-laid 2 2 bs
-along (suc (suc (suc zero))) b c bs l m s e = judge-body (b ∷ c ∷ bs) (omega arith) s (Sized 3) (ap kindOf e) refl ∙ sized-laid 3 2 bs
-along (suc (suc (suc (suc zero)))) b c bs l m s e = judge-body (b ∷ c ∷ bs) (omega arith) s Targets (ap kindOf e) refl
-along (suc (suc (suc (suc (suc zero))))) b c bs l m s e = judge-body (b ∷ c ∷ bs) (omega arith) s Status (ap kindOf e) refl
-along (suc (suc (suc (suc (suc (suc zero)))))) b c bs l m s e = judge-body (b ∷ c ∷ bs) (omega arith) s Flags (ap kindOf e) refl
-along (suc (suc (suc (suc (suc (suc (suc k))))))) b c bs l m s e = absurd (omega arith)
 
 -- -- The first byte that fails along a column of the table
 
@@ -130,28 +97,29 @@ fails-column f i (suc n) v at (suc a) (b ∷ bs) l m p t =
 -- -- Bad exactly if the table refuses
 
 module _ (kind b c : ℕ) (bs : List ℕ) (l : 1 ≤ kind) (m : kind ≤ 6) (s : b ≡ 33) (e : c ≡ identifier kind) where
-  columned : (h : Shape kind (hexFrom 0 (take 4 bs)))
-      → judge sirad 0 (b ∷ c ∷ bs) ≡ judge (lay (column (classAt kind (suc (suc (h .bytes)))) 2 (h .bytes)) kind) 2 bs
+  columned : (h : Shape kind (hexFrom 0 (take 4 bs)) (b ∷ c ∷ bs))
+      → judge sirad 0 (b ∷ c ∷ bs) ≡ judge (lay (column (classAt kind (suc (suc (h .bytes))) (b ∷ c ∷ bs)) 2 (h .bytes)) kind) 2 bs
   columned h = along kind b c bs l m s e ∙ ap (λ (cs : List Class). judge (lay cs kind) 2 bs) (h .column-is)
 
   member : (r : ℕ) → judge sirad 0 (b ∷ c ∷ bs) ≡ Bad r → Refused (b ∷ c ∷ bs) r
-  member r j = go (shape kind (hexFrom 0 (take 4 bs)) l m)
+  member r j = go (shape kind (hexFrom 0 (take 4 bs)) (b ∷ c ∷ bs) l m)
     where
       two : (f : ℕ → Class) (i : ℕ) → f (2 + i) ≡ f (suc (suc i))
       two f i = let d : 2 + i ≡ suc (suc i) = omega arith in ap f d
 
-      from : (size : ℕ) → size ≡ total kind (hexAt 4 2 (b ∷ c ∷ bs)) → (n : ℕ) → size ≡ suc (suc n) → Fails (classAt kind size) 2 n bs r
-          → Refused (b ∷ c ∷ bs) r
+      from : (size : ℕ) → size ≡ total kind (hexAt 4 2 (b ∷ c ∷ bs)) → (n : ℕ) → size ≡ suc (suc n)
+          → Fails (classAt kind size (b ∷ c ∷ bs)) 2 n bs r → Refused (b ∷ c ∷ bs) r
       from size w n q g =
           subst (Refused (b ∷ c ∷ bs))
-          (sym (g .why ∙ ap reason (two (classAt kind size) (g .at)) ∙ ap (λ (t : ℕ). reason (classAt kind t (suc (suc (g .at))))) w))
+          (sym (g .why ∙ ap reason (two (classAt kind size (b ∷ c ∷ bs)) (g .at))
+          ∙ ap (λ (t : ℕ). reason (classAt kind t (b ∷ c ∷ bs) (suc (suc (g .at))))) w))
           (no-member kind (suc (suc (g .at))) l m s e (subst (λ (t : ℕ). FirstFails kind t (suc (suc (g .at))) (b ∷ c ∷ bs)) w first))
         where
-          passes : (i : ℕ) → 2 ≤ i → i < suc (suc (g .at)) → accepts (classAt kind size i) (getD (b ∷ c ∷ bs) i 0) ≡ true
+          passes : (i : ℕ) → 2 ≤ i → i < suc (suc (g .at)) → accepts (classAt kind size (b ∷ c ∷ bs) i) (getD (b ∷ c ∷ bs) i 0) ≡ true
           passes zero h k = absurd (omega arith)
           passes (suc zero) h k = absurd (omega arith)
-          passes (suc (suc i)) h k =
-              ap (λ (x : Class). accepts x (getD bs i 0)) (sym (two (classAt kind size) i)) ∙ g .passed i (omega arith)
+          passes (suc (suc i)) h k = ap (λ (x : Class). accepts x (getD bs i 0)) (sym (two (classAt kind size (b ∷ c ∷ bs)) i))
+              ∙ g .passed i (omega arith)
 
           first : FirstFails kind size (suc (suc (g .at))) (b ∷ c ∷ bs)
           first = record {
@@ -159,35 +127,36 @@ module _ (kind b c : ℕ) (bs : List ℕ) (l : 1 ≤ kind) (m : kind ≤ 6) (s :
             there = omega (arith, g .there);
             inside = omega (arith, g .inside);
             passed = passes;
-            fails = ap (λ (x : Class). accepts x (getD bs (g .at) 0)) (sym (two (classAt kind size) (g .at))) ∙ g .fails;
+            fails = ap (λ (x : Class). accepts x (getD bs (g .at) 0)) (sym (two (classAt kind size (b ∷ c ∷ bs)) (g .at))) ∙ g .fails;
           }
 
-      go : Shape kind (hexFrom 0 (take 4 bs)) → Refused (b ∷ c ∷ bs) r
+      go : Shape kind (hexFrom 0 (take 4 bs)) (b ∷ c ∷ bs) → Refused (b ∷ c ∷ bs) r
       go h = from (suc (suc (h .bytes))) (sym (h .whole-size)) (h .bytes) refl
-          (column-fails (classAt kind (suc (suc (h .bytes)))) 2 (h .bytes) kind 2 bs r (sym (columned h) ∙ j))
+          (column-fails (classAt kind (suc (suc (h .bytes))) (b ∷ c ∷ bs)) 2 (h .bytes) kind 2 bs r (sym (columned h) ∙ j))
 
   refuses : (at : ℕ) → FirstFails kind (total kind (hexAt 4 2 (b ∷ c ∷ bs))) at (b ∷ c ∷ bs)
-      → judge sirad 0 (b ∷ c ∷ bs) ≡ Bad (reason (classAt kind (total kind (hexAt 4 2 (b ∷ c ∷ bs))) at))
-  refuses at f = go (shape kind (hexFrom 0 (take 4 bs)) l m)
+      → judge sirad 0 (b ∷ c ∷ bs) ≡ Bad (reason (classAt kind (total kind (hexAt 4 2 (b ∷ c ∷ bs))) (b ∷ c ∷ bs) at))
+  refuses at f = go (shape kind (hexFrom 0 (take 4 bs)) (b ∷ c ∷ bs) l m)
     where
-      by : (h : Shape kind (hexFrom 0 (take 4 bs))) (a : ℕ) → FirstFails kind (suc (suc (h .bytes))) a (b ∷ c ∷ bs)
-          → judge sirad 0 (b ∷ c ∷ bs) ≡ Bad (reason (classAt kind (suc (suc (h .bytes))) a))
+      by : (h : Shape kind (hexFrom 0 (take 4 bs)) (b ∷ c ∷ bs)) (a : ℕ) → FirstFails kind (suc (suc (h .bytes))) a (b ∷ c ∷ bs)
+          → judge sirad 0 (b ∷ c ∷ bs) ≡ Bad (reason (classAt kind (suc (suc (h .bytes))) (b ∷ c ∷ bs) a))
       by h zero g = absurd (omega (arith, g .behind))
       by h (suc zero) g = absurd (omega (arith, g .behind))
       by h (suc (suc a)) g =
           let d : 2 + a ≡ suc (suc a) = omega arith in
           columned h
-          ∙ fails-column (classAt kind (suc (suc (h .bytes)))) 2 (h .bytes) kind 2 a bs (omega (arith, g .there)) (omega (arith, g .inside))
+          ∙ fails-column (classAt kind (suc (suc (h .bytes))) (b ∷ c ∷ bs)) 2 (h .bytes) kind 2 a bs
+          (omega (arith, g .there)) (omega (arith, g .inside))
           (λ j k. let d : 2 + j ≡ suc (suc j) = omega arith in
-          ap (λ (x : ℕ). accepts (classAt kind (suc (suc (h .bytes))) x) (getD bs j 0)) d
+          ap (λ (x : ℕ). accepts (classAt kind (suc (suc (h .bytes))) (b ∷ c ∷ bs) x) (getD bs j 0)) d
           ∙ g .passed (suc (suc j)) (omega arith) (omega arith))
-          (ap (λ (x : ℕ). accepts (classAt kind (suc (suc (h .bytes))) x) (getD bs a 0)) d ∙ g .fails)
-          ∙ ap (λ (x : ℕ). Bad (reason (classAt kind (suc (suc (h .bytes))) x))) d
+          (ap (λ (x : ℕ). accepts (classAt kind (suc (suc (h .bytes))) (b ∷ c ∷ bs) x) (getD bs a 0)) d ∙ g .fails)
+          ∙ ap (λ (x : ℕ). Bad (reason (classAt kind (suc (suc (h .bytes))) (b ∷ c ∷ bs) x))) d
 
-      go : Shape kind (hexFrom 0 (take 4 bs))
-          → judge sirad 0 (b ∷ c ∷ bs) ≡ Bad (reason (classAt kind (total kind (hexAt 4 2 (b ∷ c ∷ bs))) at))
+      go : Shape kind (hexFrom 0 (take 4 bs)) (b ∷ c ∷ bs)
+          → judge sirad 0 (b ∷ c ∷ bs) ≡ Bad (reason (classAt kind (total kind (hexAt 4 2 (b ∷ c ∷ bs))) (b ∷ c ∷ bs) at))
       go h = by h at (subst (λ (t : ℕ). FirstFails kind t at (b ∷ c ∷ bs)) (h .whole-size) f)
-          ∙ ap (λ (t : ℕ). Bad (reason (classAt kind t at))) (sym (h .whole-size))
+          ∙ ap (λ (t : ℕ). Bad (reason (classAt kind t (b ∷ c ∷ bs) at))) (sym (h .whole-size))
 
 refused-bad : (bs : List ℕ) (r : ℕ) → Refused bs r → judge sirad 0 bs ≡ Bad r
 refused-bad bs r (no-start h e) = sym (judge-no-start bs h e)

@@ -1,76 +1,122 @@
--- Frames by the form and by the rows of pieces are the same: the form is laid out along the classes of a row.
-use mathlib.Core.Bool.{true, false}
+-- The judgement goes along the classes of a row, which the bytes themselves choose; so frames by the form and by the rows of pieces are the
+-- same.
+use mathlib.Core.Bool.{Bool, true, false, cond}
 use mathlib.Core.Path.{_≡_, refl, sym, ap, subst, _∙_}
 use mathlib.Core.List.{List, [], _∷_, _++_}
 use Prim.Native.Nat.{ℕ, zero, suc, _+_, _*_, _≤_}
 use native.Mathlib.Omega.{arith}
-use borrow.Author.Tests.{eq-eqb, eqb-true}
+use borrow.Author.Tests.{eqb-true}
 use lib.Dec.{eqb}
-use lib.ListN.{take, replicate}
+use lib.ListN.{length, take, drop, getD, replicate, length-replicate}
+use Rattle.digits.specs.Bytes.{isHex}
 use Rattle.digits.specs.Hex.{digit, hexFrom}
 use Rattle.digits.proofs.Choices.{test, both-ways}
-use Rattle.form.specs.Form.{Form, _>>=_, Frame}
-use Rattle.sirad.specs.declared.Class.{Class}
-use Rattle.sirad.specs.declared.Class.the-variants.{Hex}
-use Rattle.sirad.specs.declared.Kind.the-variants.{Unknown}
-use Rattle.sirad.specs.Classes.{Passes}
+use Rattle.form.specs.declared.Judgement.{Judgement}
+use Rattle.form.specs.declared.Judgement.the-variants.{Whole, Bad}
+use Rattle.form.specs.Form.{Form, byte, _>>=_, judge, Frame}
+use Rattle.form.proofs.Theorems.{judged-frame, frame-whole}
+use Rattle.sirad.specs.Classes.{Class, Hex, Char, Zero, Cr, Lf, accepts, reason, Passes}
+use Rattle.sirad.specs.declared.Kind.the-variants.{Sized, Targets, Status, Flags, Unknown}
+use Rattle.sirad.specs.Rows.{Piece, hex, char, spare, slot, cr, lf, targetClasses, blockClasses, pieceClasses, width}
 use Rattle.sirad.specs.Rows.{classes, dataPieces, rPieces, tPieces, uPieces, ePieces, rowOf}
-use Rattle.sirad.specs.Sirad.{lay, row, number, sized, kindOf, known, body, sirad}
+use Rattle.sirad.specs.Sirad.{lay, run, block, piece, row, number, sized, kindOf, known, body, sirad}
 use Rattle.sirad.specs.Table.{identifier, RowFrame}
+use Rattle.sirad.proofs.FrameLaws.{judge-body}
 
--- -- The form along a row
+-- -- The judgement along the classes of a row
 
-lay-passes : (cs : List Class) (v k : ℕ) (bs : List ℕ) → Frame (lay cs v) k bs → Passes cs bs × (v ≡ k)
-unfolding lay Frame Passes
-lay-passes [] v k [] f = (tt, f)
-lay-passes [] v k (b ∷ bs) f = absurd f
-lay-passes (c ∷ cs) v k [] f = absurd f
-lay-passes (c ∷ cs) v k (b ∷ bs) f = let r = lay-passes cs v k bs (f .1) in ((f .0, r .0), r .1)
+-- a piece has as many bytes as classes
+pub length-classes : (p : Piece) (bs : List ℕ) → length (pieceClasses p bs) ≡ width p bs
+length-classes (hex n) bs = length-replicate n Hex
+length-classes char bs = refl
+length-classes spare bs = refl
+length-classes slot bs = go (eqb (getD bs 0 0) 0)
+  where
+    go : (t : Bool) → length (cond t (replicate 14 Zero) targetClasses) ≡ 14
+    go true = refl
+    go false = refl
+length-classes cr bs = refl
+length-classes lf bs = refl
 
-passes-lay : (cs : List Class) (v k : ℕ) (bs : List ℕ) → Passes cs bs → v ≡ k → Frame (lay cs v) k bs
-unfolding lay Frame Passes
-passes-lay [] v k [] p e = e
-passes-lay [] v k (b ∷ bs) p e = absurd p
-passes-lay (c ∷ cs) v k [] p e = absurd p
-passes-lay (c ∷ cs) v k (b ∷ bs) p e = (p .0, passes-lay cs v k bs (p .1) e)
+run-lay : (n : ℕ) (c : Class) → run n c ≡ lay (replicate n c) 0
+unfolding run lay
+run-lay zero c = refl
+run-lay (suc n) c = ap (λ (p : Form). byte (reason c) (accepts c) (λ _. p)) (run-lay n c)
 
-module _ (h : ℕ → Form) (cs : ℕ → List Class) (k : ℕ) where
-  -- n digits, and then what their number says
-  number-passes : (n v : ℕ) (bs : List ℕ) → ((m : ℕ) (bs : List ℕ) → Frame (h m) k bs → Passes (cs m) bs) → Frame (number n v >>= h) k bs
-      → Passes (replicate n Hex ++ cs (hexFrom v (take n bs))) bs
-  unfolding number Frame Passes hexFrom _>>=_
-  number-passes zero v bs g f = g v bs f
-  number-passes (suc n) v [] g f = absurd f
-  number-passes (suc n) v (b ∷ bs) g f = (f .0, number-passes n (v * 16 + digit b) bs g (f .1))
+-- a piece, and then q, is judged along the piece's classes
+Laid : Piece → Form → ℕ → List ℕ → Type 0
+Laid p q at bs = judge (piece p >>= (λ _. q)) at bs ≡ judge (lay (pieceClasses p bs) 0 >>= (λ _. q)) at bs
 
-  passes-number : (n v : ℕ) (bs : List ℕ) → ((m : ℕ) (bs : List ℕ) → Passes (cs m) bs → Frame (h m) k bs)
-      → Passes (replicate n Hex ++ cs (hexFrom v (take n bs))) bs → Frame (number n v >>= h) k bs
-  unfolding number Frame Passes hexFrom _>>=_
-  passes-number zero v bs g p = g v bs p
-  passes-number (suc n) v [] g p = absurd p
-  passes-number (suc n) v (b ∷ bs) g p = (p .0, passes-number n (v * 16 + digit b) bs g (p .1))
+run-laid : (n : ℕ) (c : Class) (q : Form) (at : ℕ) (bs : List ℕ)
+    → judge (run n c >>= (λ _. q)) at bs ≡ judge (lay (replicate n c) 0 >>= (λ _. q)) at bs
+run-laid n c q at bs = ap (λ (p : Form). judge (p >>= (λ _. q)) at bs) (run-lay n c)
 
--- what holds whatever the number of n digits says
-number-then : (h : ℕ → Form) (k n v : ℕ) {A : Type 0} (bs : List ℕ) → ((m : ℕ) (bs : List ℕ) → Frame (h m) k bs → A)
-    → Frame (number n v >>= h) k bs → A
-unfolding number Frame _>>=_
-number-then h k zero v bs g f = g v bs f
-number-then h k (suc n) v [] g f = absurd f
-number-then h k (suc n) v (b ∷ bs) g f = number-then h k n (v * 16 + digit b) bs g (f .1)
+block-laid : (q : Form) (at : ℕ) (bs : List ℕ) → Laid slot q at bs
+unfolding Laid block lay run judge _>>=_
+block-laid q at [] = refl
+block-laid q at (b ∷ bs) = go (eqb b 0) refl
+  where
+    go : (t : Bool) → eqb b 0 ≡ t → judge (block >>= (λ _. q)) at (b ∷ bs) ≡ judge (lay (blockClasses b) 0 >>= (λ _. q)) at (b ∷ bs)
+    go true e = rw (e, e)
+    go false e = rw e
 
-sized-passes : (v k : ℕ) (bs : List ℕ) → Frame (sized v) k bs → Passes (classes (rPieces (hexFrom 0 (take 4 bs)))) bs × (v ≡ k)
+piece-laid : (p : Piece) (q : Form) (at : ℕ) (bs : List ℕ) → Laid p q at bs
+unfolding Laid
+piece-laid (hex n) q at bs = run-laid n Hex q at bs
+piece-laid char q at bs = run-laid 1 Char q at bs
+piece-laid spare q at bs = run-laid 1 Char q at bs
+piece-laid slot q at bs = block-laid q at bs
+piece-laid cr q at bs = run-laid 1 Cr q at bs
+piece-laid lf q at bs = run-laid 1 Lf q at bs
+
+-- classes, and then those that the bytes behind them choose
+lay-then : (cs : List Class) (q : Form) (ds : List ℕ → List Class) (k at : ℕ) (bs : List ℕ)
+    → ((at : ℕ) (xs : List ℕ) → judge q at xs ≡ judge (lay (ds xs) k) at xs)
+    → judge (lay cs 0 >>= (λ _. q)) at bs ≡ judge (lay (cs ++ ds (drop (length cs) bs)) k) at bs
+unfolding lay judge _>>=_
+lay-then [] q ds k at bs h = h at bs
+lay-then (c ∷ cs) q ds k at [] h = refl
+lay-then (c ∷ cs) q ds k at (b ∷ bs) h = ap (λ (j : Judgement). cond (accepts c b) j (Bad (reason c))) (lay-then cs q ds k (at + 1) bs h)
+
+-- a row is judged along its classes
+pub row-laid : (ps : List Piece) (k at : ℕ) (bs : List ℕ) → judge (row ps k) at bs ≡ judge (lay (classes ps bs) k) at bs
+unfolding row classes lay Laid
+row-laid [] k at bs = refl
+row-laid (p ∷ ps) k at bs =
+    piece-laid p (row ps k) at bs
+    ∙ lay-then (pieceClasses p bs) (row ps k) (classes ps) k at bs (row-laid ps k)
+    ∙ ap (λ (n : ℕ). judge (lay (pieceClasses p bs ++ classes ps (drop n bs)) k) at bs) (length-classes p bs)
+
+number-laid : (w : ℕ) (h : ℕ → Form) (ds : ℕ → List ℕ → List Class)
+    → ((m at : ℕ) (xs : List ℕ) → judge (h m) at xs ≡ judge (lay (ds m xs) w) at xs)
+    → (n v at : ℕ) (bs : List ℕ)
+    → judge (number n v >>= h) at bs ≡ judge (lay (replicate n Hex ++ ds (hexFrom v (take n bs)) (drop n bs)) w) at bs
+unfolding number lay judge hexFrom _>>=_
+number-laid w h ds l zero v at bs = l v at bs
+number-laid w h ds l (suc n) v at [] = refl
+number-laid w h ds l (suc n) v at (b ∷ bs) =
+    ap (λ (j : Judgement). cond (isHex b) j (Bad 12)) (number-laid w h ds l n (v * 16 + digit b) (at + 1) bs)
+
+sized-laid : (kind at : ℕ) (bs : List ℕ) → judge (sized kind) at bs ≡ judge (lay (classes (rPieces (hexFrom 0 (take 4 bs))) bs) kind) at bs
 unfolding classes
-sized-passes v k bs f = (
-  number-passes (λ n. row (dataPieces n) v) (λ n. classes (dataPieces n)) k 4 0 bs
-      (λ m xs g. lay-passes (classes (dataPieces m)) v k xs g .0) f,
-  number-then (λ n. row (dataPieces n) v) k 4 0 bs (λ m xs g. lay-passes (classes (dataPieces m)) v k xs g .1) f,
-)
+sized-laid kind at bs =
+    number-laid kind (λ n. row (dataPieces n) kind) (λ n. classes (dataPieces n)) (λ n. row-laid (dataPieces n) kind) 4 0 at bs
 
-passes-sized : (v k : ℕ) (bs : List ℕ) → Passes (classes (rPieces (hexFrom 0 (take 4 bs)))) bs → v ≡ k → Frame (sized v) k bs
-unfolding classes
-passes-sized v k bs p e =
-    passes-number (λ n. row (dataPieces n) v) (λ n. classes (dataPieces n)) k 4 0 bs
-    (λ m xs g. passes-lay (classes (dataPieces m)) v k xs g e) p
+-- bytes with the start marker and the identifier of a kind are judged along the row of that kind
+pub along : (kind b c : ℕ) (bs : List ℕ) → 1 ≤ kind → kind ≤ 6 → b ≡ 33 → c ≡ identifier kind
+    → judge sirad 0 (b ∷ c ∷ bs) ≡ judge (lay (classes (rowOf kind (hexFrom 0 (take 4 bs))) bs) kind) 2 bs
+unfolding body
+along zero b c bs l m s e = absurd (omega arith)
+along (suc zero) b c bs l m s e = judge-body (b ∷ c ∷ bs) (omega arith) s (Sized 1) (ap kindOf e) refl ∙ sized-laid 1 2 bs
+along (suc (suc zero)) b c bs l m s e = judge-body (b ∷ c ∷ bs) (omega arith) s (Sized 2) (ap kindOf e) refl ∙ sized-laid 2 2 bs
+along (suc (suc (suc zero))) b c bs l m s e = judge-body (b ∷ c ∷ bs) (omega arith) s (Sized 3) (ap kindOf e) refl ∙ sized-laid 3 2 bs
+along (suc (suc (suc (suc zero)))) b c bs l m s e = judge-body (b ∷ c ∷ bs) (omega arith) s Targets (ap kindOf e) refl
+    ∙ row-laid tPieces 4 2 bs
+along (suc (suc (suc (suc (suc zero))))) b c bs l m s e = judge-body (b ∷ c ∷ bs) (omega arith) s Status (ap kindOf e) refl
+    ∙ row-laid uPieces 5 2 bs
+along (suc (suc (suc (suc (suc (suc zero)))))) b c bs l m s e = judge-body (b ∷ c ∷ bs) (omega arith) s Flags (ap kindOf e) refl
+    ∙ row-laid ePieces 6 2 bs
+along (suc (suc (suc (suc (suc (suc (suc k))))))) b c bs l m s e = absurd (omega arith)
 
 -- -- The identifier
 
@@ -106,55 +152,47 @@ identify {A} c f g =
 pub unknown : (c : ℕ) → ((kind : ℕ) → 1 ≤ kind → kind ≤ 6 → c ≡ identifier kind → ⊥) → kindOf c ≡ Unknown
 unknown c n = identify c (λ kind l m e. absurd (n kind l m e)) (λ u. u)
 
+-- judged whole along classes: every byte is of its class
+lay-passes : (cs : List Class) (v k at : ℕ) (bs : List ℕ) → judge (lay cs v) at bs ≡ Whole k (at + length bs) → Passes cs bs × (v ≡ k)
+unfolding lay judge Passes
+lay-passes [] v k at [] h = (tt, cc)
+lay-passes [] v k at (b ∷ bs) h = let e : at ≡ at + suc (length bs) = cc in absurd (omega arith)
+lay-passes (c ∷ cs) v k at [] h = let z : _≡_ {A = ℕ} 0 1 = cc in absurd (omega arith)
+lay-passes (c ∷ cs) v k at (b ∷ bs) h = go (accepts c b) refl (h ∙ ap (Whole k) long) (lay-passes cs v k (at + 1) bs)
+  where
+    long : at + suc (length bs) ≡ at + 1 + length bs
+    long = omega arith
+
+    go : (t : Bool) → accepts c b ≡ t → cond t (judge (lay cs v) (at + 1) bs) (Bad (reason c)) ≡ Whole k (at + 1 + length bs)
+        → (judge (lay cs v) (at + 1) bs ≡ Whole k (at + 1 + length bs) → Passes cs bs × (v ≡ k)) → Passes (c ∷ cs) (b ∷ bs) × (v ≡ k)
+    go true a j s = let r = s j in ((a, r .0), r .1)
+    go false a j s = let z : _≡_ {A = ℕ} 0 1 = cc in absurd (omega arith)
+
+passes-lay : (cs : List Class) (v at : ℕ) (bs : List ℕ) → Passes cs bs → judge (lay cs v) at bs ≡ Whole v (at + length bs)
+unfolding lay judge Passes
+passes-lay [] v at [] p = let e : at ≡ at + 0 = omega arith in ap (Whole v) e
+passes-lay [] v at (b ∷ bs) p = absurd p
+passes-lay (c ∷ cs) v at [] p = absurd p
+passes-lay (c ∷ cs) v at (b ∷ bs) p =
+    let e : at + 1 + length bs ≡ at + suc (length bs) = omega arith in
+    rw (p .0) (passes-lay cs v (at + 1) bs (p .1) ∙ ap (Whole v) e)
+
 -- -- The form and the rows
-
-made : (v k b c : ℕ) (bs : List ℕ) → 1 ≤ v → v ≤ 6 → b ≡ 33 → c ≡ identifier v
-    → Passes (classes (rowOf v (hexFrom 0 (take 4 bs)))) bs × (v ≡ k) → RowFrame k (b ∷ c ∷ bs)
-made v k b c bs s m e i p =
-    subst (λ (k : ℕ). RowFrame k (b ∷ c ∷ bs)) (p .1) (record { some = s; most = m; start = e; named = i; passes = p .0 })
-
-row-as : (kind k b c : ℕ) (bs : List ℕ) → 1 ≤ kind → kind ≤ 6 → b ≡ 33 → c ≡ identifier kind → Frame (body (kindOf (identifier kind))) k bs
-    → RowFrame k (b ∷ c ∷ bs)
-unfolding body
-row-as zero k b c bs l m s e f = absurd (omega arith)
-row-as (suc zero) k b c bs l m s e f = made 1 k b c bs l m s e (sized-passes 1 k bs f)
-row-as (suc (suc zero)) k b c bs l m s e f = made 2 k b c bs l m s e (sized-passes 2 k bs f)
-row-as (suc (suc (suc zero))) k b c bs l m s e f = made 3 k b c bs l m s e (sized-passes 3 k bs f)
-row-as (suc (suc (suc (suc zero)))) k b c bs l m s e f = made 4 k b c bs l m s e (lay-passes (classes tPieces) 4 k bs f)
-row-as (suc (suc (suc (suc (suc zero))))) k b c bs l m s e f = made 5 k b c bs l m s e (lay-passes (classes uPieces) 5 k bs f)
-row-as (suc (suc (suc (suc (suc (suc zero)))))) k b c bs l m s e f = made 6 k b c bs l m s e (lay-passes (classes ePieces) 6 k bs f)
-row-as (suc (suc (suc (suc (suc (suc (suc kind))))))) k b c bs l m s e f = absurd (omega arith)
-
-row-of : (b c k : ℕ) (bs : List ℕ) → b ≡ 33 → known (kindOf c) ≡ true → Frame (body (kindOf c)) k bs → RowFrame k (b ∷ c ∷ bs)
-row-of b c k bs s t f =
-    identify c (λ kind l m e. row-as kind k b c bs l m s e (subst (λ (x : ℕ). Frame (body (kindOf x)) k bs) e f))
-    (λ u. both-ways (known (kindOf c)) t (ap known u))
 
 -- a frame of the form follows its row
 pub form-row : (k : ℕ) (bs : List ℕ) → Frame sirad k bs → RowFrame k bs
 unfolding sirad _>>=_ Frame
 form-row k [] f = absurd f
 form-row k (b ∷ []) f = absurd (f .1)
-form-row k (b ∷ c ∷ bs) f = row-of b c k bs (eqb-true b 33 (f .0)) (f .1 .0) (f .1 .1)
-
-framed : (k b c : ℕ) (bs : List ℕ) (d : ℕ) → b ≡ 33 → c ≡ d → known (kindOf d) ≡ true → Frame (body (kindOf d)) k bs
-    → Frame sirad k (b ∷ c ∷ bs)
-unfolding sirad _>>=_ Frame
-framed k b c bs d s e t f =
-    (eq-eqb b 33 s, (ap (λ (x : ℕ). known (kindOf x)) e ∙ t, subst (λ (x : ℕ). Frame (body (kindOf x)) k bs) (sym e) f))
-
-framed-as : (k b c : ℕ) (bs : List ℕ) → 1 ≤ k → k ≤ 6 → b ≡ 33 → c ≡ identifier k → Passes (classes (rowOf k (hexFrom 0 (take 4 bs)))) bs
-    → Frame sirad k (b ∷ c ∷ bs)
-unfolding body
-framed-as zero b c bs l m s e p = absurd (omega arith)
-framed-as (suc zero) b c bs l m s e p = framed 1 b c bs 82 s e refl (passes-sized 1 1 bs p refl)
-framed-as (suc (suc zero)) b c bs l m s e p = framed 2 b c bs 80 s e refl (passes-sized 2 2 bs p refl)
-framed-as (suc (suc (suc zero))) b c bs l m s e p = framed 3 b c bs 67 s e refl (passes-sized 3 3 bs p refl)
-framed-as (suc (suc (suc (suc zero)))) b c bs l m s e p = framed 4 b c bs 84 s e refl (passes-lay (classes tPieces) 4 4 bs p refl)
-framed-as (suc (suc (suc (suc (suc zero))))) b c bs l m s e p = framed 5 b c bs 85 s e refl (passes-lay (classes uPieces) 5 5 bs p refl)
-framed-as (suc (suc (suc (suc (suc (suc zero)))))) b c bs l m s e p =
-    framed 6 b c bs 69 s e refl (passes-lay (classes ePieces) 6 6 bs p refl)
-framed-as (suc (suc (suc (suc (suc (suc (suc k))))))) b c bs l m s e p = absurd (omega arith)
+form-row k (b ∷ c ∷ bs) f = identify c by (λ u. both-ways (known (kindOf c)) (f .1 .0) (ap known u))
+  where
+    by : (kind : ℕ) → 1 ≤ kind → kind ≤ 6 → c ≡ identifier kind → RowFrame k (b ∷ c ∷ bs)
+    by kind l m e =
+        let s : b ≡ 33 = eqb-true b 33 (f .0) in
+        let long : suc (suc (length bs)) ≡ 2 + length bs = omega arith in
+        let judged = sym (along kind b c bs l m s e) ∙ frame-whole sirad k (b ∷ c ∷ bs) f ∙ ap (Whole k) long in
+        let p = lay-passes (classes (rowOf kind (hexFrom 0 (take 4 bs))) bs) kind k 2 bs judged in
+        subst (λ (k : ℕ). RowFrame k (b ∷ c ∷ bs)) (p .1) (record { some = l; most = m; start = s; named = e; passes = p .0 })
 
 -- no kind from 1 to 6 has the identifier 0
 pub named-there : (k : ℕ) → 1 ≤ k → k ≤ 6 → 0 ≡ identifier k → ⊥
@@ -171,4 +209,9 @@ named-there (suc (suc (suc (suc (suc (suc (suc k))))))) l m e = omega arith
 pub row-form : (k : ℕ) (bs : List ℕ) → RowFrame k bs → Frame sirad k bs
 row-form k [] r = let z : _≡_ {A = ℕ} 0 33 = r .start in absurd (omega arith)
 row-form k (b ∷ []) r = absurd (named-there k (r .some) (r .most) (r .named))
-row-form k (b ∷ c ∷ bs) r = framed-as k b c bs (r .some) (r .most) (r .start) (r .named) (r .passes)
+row-form k (b ∷ c ∷ bs) r =
+    let long : 2 + length bs ≡ suc (suc (length bs)) = omega arith in
+    judged-frame sirad k (b ∷ c ∷ bs)
+    (along k b c bs (r .some) (r .most) (r .start) (r .named)
+    ∙ passes-lay (classes (rowOf k (hexFrom 0 (take 4 bs))) bs) k 2 bs (r .passes)
+    ∙ ap (Whole k) long)

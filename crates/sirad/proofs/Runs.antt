@@ -11,8 +11,7 @@ use Rattle.form.specs.declared.Judgement.the-variants.{Whole, Bad, Waiting}
 use Rattle.form.specs.Form.{Form, whole, byte, _>>=_, judge, judgeAt}
 use Rattle.form.specs.Pieces.{one}
 use Rattle.form.proofs.PieceLaws.{byte-step, byte-ends, go-on, halt, Halted}
-use Rattle.sirad.specs.declared.Class.{Class}
-use Rattle.sirad.specs.Classes.{accepts, reason}
+use Rattle.sirad.specs.Classes.{Class, accepts, reason}
 use Rattle.sirad.specs.Sirad.{run}
 
 -- -- One byte

@@ -12,13 +12,11 @@ use Rattle.digits.proofs.Choices.{both-ways}
 use Rattle.form.specs.declared.Judgement.the-variants.{Bad, Waiting}
 use Rattle.form.specs.Form.{Form, whole, byte, word, _>>=_, judge, Frame}
 use Rattle.form.proofs.Theorems.{not-both, judgement-kept}
-use Rattle.sirad.specs.declared.Class.{Class}
-use Rattle.sirad.specs.declared.Class.the-variants.{Hex, Char, Cr, Lf}
+use Rattle.sirad.specs.Classes.{Class, Hex, Char, Zero, Cr, Lf, accepts}
 use Rattle.sirad.specs.declared.Kind.{Kind}
 use Rattle.sirad.specs.declared.Kind.the-variants.{Sized, Targets, Status, Flags, Unknown}
-use Rattle.sirad.specs.Classes.{accepts}
-use Rattle.sirad.specs.Rows.{classes, dataPieces, tPieces, uPieces, ePieces}
-use Rattle.sirad.specs.Sirad.{lay, row, number, kindOf, known, body, sirad}
+use Rattle.sirad.specs.Rows.{Piece, hex, char, spare, slot, cr, lf, behindNumber, dataPieces, tPieces, uPieces, ePieces}
+use Rattle.sirad.specs.Sirad.{lay, run, block, piece, row, number, kindOf, known, body, sirad}
 use Rattle.sirad.proofs.FrameLaws.{judge-no-start}
 
 -- -- Forms that refuse a start marker
@@ -38,6 +36,7 @@ refuses-then (word r t f) h l n = absurd l
 class-refuses : (c : Class) → accepts c 33 ≡ false
 class-refuses Hex = refl
 class-refuses Char = refl
+class-refuses Zero = refl
 class-refuses Cr = refl
 class-refuses Lf = refl
 
@@ -45,6 +44,32 @@ lay-refuses : (cs : List Class) (v : ℕ) → Refuses (lay cs v)
 unfolding lay Refuses
 lay-refuses [] v = tt
 lay-refuses (c ∷ cs) v = (class-refuses c, λ b. lay-refuses cs v)
+
+run-refuses : (n : ℕ) (c : Class) → Refuses (run n c)
+unfolding run Refuses
+run-refuses zero c = tt
+run-refuses (suc n) c = (class-refuses c, λ b. run-refuses n c)
+
+block-refuses : Refuses block
+unfolding block Refuses _>>=_
+block-refuses = (refl, λ b. go (eqb b 0))
+  where
+    go : (t : Bool) → Refuses (cond t (run 13 Zero) (lay behindNumber 0))
+    go true = run-refuses 13 Zero
+    go false = lay-refuses behindNumber 0
+
+piece-refuses : (p : Piece) → Refuses (piece p)
+piece-refuses (hex n) = run-refuses n Hex
+piece-refuses char = run-refuses 1 Char
+piece-refuses spare = run-refuses 1 Char
+piece-refuses slot = block-refuses
+piece-refuses cr = run-refuses 1 Cr
+piece-refuses lf = run-refuses 1 Lf
+
+row-refuses : (ps : List Piece) (kind : ℕ) → Refuses (row ps kind)
+unfolding row Refuses
+row-refuses [] kind = tt
+row-refuses (p ∷ ps) kind = refuses-then (piece p) (λ _. row ps kind) (piece-refuses p) (λ _. row-refuses ps kind)
 
 number-refuses : (n v : ℕ) → Refuses (number n v)
 unfolding number Refuses
@@ -54,10 +79,10 @@ number-refuses (suc n) v = (refl, λ b. number-refuses n (v * 16 + digit b))
 body-refuses : (k : Kind) → Refuses (body k)
 unfolding body Refuses
 body-refuses (Sized kind) =
-    refuses-then (number 4 0) (λ n. row (dataPieces n) kind) (number-refuses 4 0) (λ n. lay-refuses (classes (dataPieces n)) kind)
-body-refuses Targets = lay-refuses (classes tPieces) 4
-body-refuses Status = lay-refuses (classes uPieces) 5
-body-refuses Flags = lay-refuses (classes ePieces) 6
+    refuses-then (number 4 0) (λ n. row (dataPieces n) kind) (number-refuses 4 0) (λ n. row-refuses (dataPieces n) kind)
+body-refuses Targets = row-refuses tPieces 4
+body-refuses Status = row-refuses uPieces 5
+body-refuses Flags = row-refuses ePieces 6
 body-refuses Unknown = tt
 
 -- -- Bytes that such a form has taken

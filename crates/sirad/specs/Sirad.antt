@@ -1,5 +1,5 @@
--- The SiRad wire as a form: `judge sirad 0` is its judgement (paper 01, "SiRad").
-use mathlib.Core.Bool.{Bool, true, false, cond}
+-- The SiRad wire as a form: `judge sirad 0` is its judgement (paper 01, "SiRad"; paper 02, (ii)).
+use mathlib.Core.Bool.{Bool, true, false, cond, _||_}
 use mathlib.Core.List.{List, [], _∷_}
 use Prim.Native.Nat.{ℕ, zero, suc, _+_, _*_}
 use lib.Dec.{eqb}
@@ -7,12 +7,11 @@ use Rattle.digits.specs.Bytes.{isHex}
 use Rattle.digits.specs.Hex.{digit}
 use Rattle.form.specs.Form.{Form, whole, byte, _>>=_, _>>_}
 use Rattle.form.specs.Pieces.{one}
-use Rattle.sirad.specs.declared.Class.{Class}
-use Rattle.sirad.specs.declared.Class.the-variants.{Hex, Char}
+use Rattle.sirad.specs.Classes.{Class, Hex, Char, Zero, Cr, Lf, accepts, reason}
 use Rattle.sirad.specs.declared.Kind.{Kind}
 use Rattle.sirad.specs.declared.Kind.the-variants.{Sized, Targets, Status, Flags, Unknown}
-use Rattle.sirad.specs.Classes.{accepts, reason}
-use Rattle.sirad.specs.Rows.{Piece, classes, blockPieces, dataPieces, tPieces, uPieces, ePieces}
+use Rattle.sirad.specs.Rows.{Piece, hex, char, spare, slot, cr, lf, behindNumber, targetClasses}
+use Rattle.sirad.specs.Rows.{dataPieces, tPieces, uPieces, ePieces}
 
 -- -- Parts of a body
 
@@ -21,22 +20,44 @@ unfoldable pub lay : List Class → ℕ → Form
 lay [] v = whole v
 lay (c ∷ cs) v = byte (reason c) (accepts c) (λ _. lay cs v)
 
--- the bytes of a row, of a frame of this kind
-abbrev pub row : List Piece → ℕ → Form
-row ps kind = lay (classes ps) kind
-
 -- n bytes of one class
 unfoldable pub run : ℕ → Class → Form
 run zero c = whole 0
 run (suc n) c = byte (reason c) (accepts c) (λ _. run n c)
 
--- format and gain, in front of T and U
-abbrev pub head : Form
-head = lay (Hex ∷ Char ∷ []) 0
+-- a T block that is a target
+unfoldable pub target : Form
+target = lay targetClasses 0
+
+-- behind the first byte of a block: the value 0 commits the other thirteen to it, a digit is the number of a target (paper 02, (ii))
+abbrev pub behindFirst : ℕ → Form
+behindFirst b = cond (eqb b 0) (run 13 Zero) (lay behindNumber 0)
 
 -- one block of a T frame
 unfoldable pub block : Form
-block = lay (classes blockPieces) 0
+block = do
+  b ← one 12 (λ b. eqb b 0 || isHex b)
+  behindFirst b
+
+-- a piece's bytes
+abbrev pub piece : Piece → Form
+piece (hex n) = run n Hex
+piece char = run 1 Char
+piece spare = run 1 Char
+piece slot = block
+piece cr = run 1 Cr
+piece lf = run 1 Lf
+
+-- the bytes of a row, piece by piece, of a frame of this kind
+unfoldable pub row : List Piece → ℕ → Form
+row [] kind = whole kind
+row (p ∷ ps) kind = do
+  piece p
+  row ps kind
+
+-- format and gain, in front of T and U
+abbrev pub head : Form
+head = lay (Hex ∷ Char ∷ []) 0
 
 -- n hex digits; the value is their number, with v in front of them
 unfoldable pub number : ℕ → ℕ → Form

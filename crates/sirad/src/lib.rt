@@ -1,11 +1,10 @@
-// The SiRad frames (paper 01, "SiRad"): their types, definitions and laws.
+// The SiRad frames (paper 01, "SiRad"; paper 02, (ii)): their types, definitions and laws.
 
-// The classes of the bytes behind the identifier.
-pub enum Class {
+// The classes of which a frame has runs of bytes; a fixed byte is tested apart.
+pub enum ByteClass {
     Hex,
     Char,
-    Cr,
-    Lf,
+    Zero,
 }
 
 // What an identifier announces; the frames with a size field carry their kind.

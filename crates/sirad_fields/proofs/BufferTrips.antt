@@ -14,7 +14,7 @@ use Rattle.sirad_fields.specs.declared.DataFrame.{DataFrame}
 use Rattle.sirad_fields.specs.declared.Target.{Target}
 use Rattle.sirad_fields.specs.Frames.{frameKind, rowIn, blankFrame, ReadsBack, WritesBack}
 use Rattle.sirad_fields.specs.Fields.{dataStart, readData, partOf, dataRefusal, dataBytes}
-use Rattle.sirad_fields.specs.Fields.{Phases, readTargets, targetsRefusal, targetsBytes}
+use Rattle.sirad_fields.specs.Fields.{Phases, allCarried, readTargets, targetsRefusal, targetsBytes}
 use Rattle.sirad_fields.specs.Fields.{statusFields, readStatus, statusNumbers, sentNumbers, statusRefusal, statusBytes}
 use Rattle.sirad_fields.specs.Fields.{readError, errorRefusal, errorBytes}
 use Rattle.sirad_fields.proofs.ValueLaws.{length-blank}
@@ -49,17 +49,17 @@ status-buffer-reads-back format gain accuracy range ramp bandwidth time out r af
     left-holds (λ (bs : List ℕ). ReadsBack 5 bs readStatus (statusFields vs)) _ _ out r after
     (status-written-reads-back format gain accuracy range ramp bandwidth time)
 
--- targets likewise
+-- targets likewise, and empty blocks as empty
 pub targets-buffer-read-back : (format gain : ℕ) (ts : List Target) (out : List ℕ) (r : Written) (after : List ℕ) → Phases ts
     → Writes (targetsRefusal format gain ts) (targetsBytes format gain ts) out r after → r .refusal ≡ 0
-    → ReadsBack 4 (take (r .size) after) readTargets (record { refusal = 0; format = format; gain = gain; targets = ts })
+    → ReadsBack 4 (take (r .size) after) readTargets (record { refusal = 0; format = format; gain = gain; targets = allCarried ts })
 targets-buffer-read-back format gain ts out r after p =
     left-holds (λ (bs : List ℕ). ReadsBack 4 bs readTargets (record {
       refusal =
           0;
       format = format;
       gain = gain;
-      targets = ts;
+      targets = allCarried ts;
     })) _ _ out r after
     (targets-written-read-back format gain ts p)
 
@@ -75,14 +75,15 @@ data-buffer-reads-back k cs out r after =
 
 -- -- Read, then written
 
--- a frame with its reserved bytes as `0` is as long as before
+-- a frame with its reserved bytes and blocks of value 0 as `0` is as long as before
 pub length-blank-frame : (k : ℕ) (bs : List ℕ) → 0 < k → frameKind bs ≡ k → length (blankFrame k bs) ≡ length bs
 length-blank-frame k bs p h =
     let e = length-blank (rowIn k bs) (drop 2 bs) (kind-row k bs p h .passes) in
     let long : 2 ≤ length bs = omega (arith, kind-length k bs p h, total-least k (hexAt 4 2 bs)) in
     simp (length-append, e, length-take-le 2 bs long, length-drop 2 bs) (omega arith)
 
--- a frame that is read and written into a buffer with room is there again but for reserved bytes, now `0`, and all behind it stays
+-- a frame that is read and written into a buffer with room is there again but for reserved bytes and blocks of value 0, now `0`, and all
+-- behind it stays
 pub record BufferWritesBack (kind : ℕ) (frame out : List ℕ) (r : Written) (after : List ℕ) : Type 0 where
   pub accepted : r .refusal ≡ 0
   pub leaves : after ≡ blankFrame kind frame ++ drop (length frame) out

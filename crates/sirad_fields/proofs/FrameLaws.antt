@@ -20,10 +20,10 @@ use Rattle.sirad.specs.Rows.{Piece, hex, classes, dataPieces, rowOf}
 use Rattle.sirad.specs.Sirad.{sirad}
 use Rattle.sirad.specs.Table.{identifier, total, RowFrame}
 use Rattle.sirad.proofs.TableLaws.{whole-by-row, whole-length, total-least}
-use Rattle.sirad_fields.specs.Values.{values, written, fit}
+use Rattle.sirad_fields.specs.Values.{values, written, fit, distinct}
 use Rattle.sirad_fields.specs.Frames.{frameKind, rowIn, numbersIn, frameOf, blankFrame}
 use Rattle.sirad_fields.specs.Fields.{isData}
-use Rattle.sirad_fields.proofs.ValueLaws.{back, passes, again, fits-again}
+use Rattle.sirad_fields.proofs.ValueLaws.{back, passes, again, fits-again, distinct-again}
 
 -- the kinds 1 to 3
 pub data-range : (k : ℕ) → isData k ≡ true → (1 ≤ k) × (k ≤ 3)
@@ -82,31 +82,43 @@ same-row k m n e = go (decLe k 3)
     go (yes l) = rw (e l)
     go (no l) = rw (lt-leb k 3 (omega arith))
 
-module _ (k n : ℕ) (vs : List ℕ) (some : 1 ≤ k) (most : k ≤ 6) (sizes : k ≤ 3 → getD vs 0 0 ≡ n) (fits : fit (rowOf k n) vs ≡ true) where
+-- numbers that a frame can be written for
+pub record Writable (k n : ℕ) (vs : List ℕ) : Type 0 where
+  pub some : 1 ≤ k
+  pub most : k ≤ 6
+  pub sizes : k ≤ 3 → getD vs 0 0 ≡ n
+  pub fits : fit (rowOf k n) vs ≡ true
+  pub differs : distinct (rowOf k n) vs ≡ true
+
+module _ (k n : ℕ) (vs : List ℕ) (w : Writable k n vs) where
   -- the numbers of a written frame are those that went in
   pub numbers-back : values (rowOf k n) (written (rowOf k n) vs) ≡ vs
-  numbers-back = rw (append-nil (written (rowOf k n) vs)) at (back (rowOf k n) vs [] fits)
+  numbers-back = rw (append-nil (written (rowOf k n) vs)) at (back (rowOf k n) vs [] (w .fits) (w .differs))
 
   -- a written frame's size field is its size
   pub size-back : k ≤ 3 → hexValue (take 4 (written (rowOf k n) vs)) ≡ n
-  size-back l = first-number (rowOf k n) (dataPieces n) (written (rowOf k n) vs) vs (rw (le-leb k 3 l)) numbers-back ∙ sizes l
+  size-back l = first-number (rowOf k n) (dataPieces n) (written (rowOf k n) vs) vs (rw (le-leb k 3 l)) numbers-back ∙ w .sizes l
 
   -- a written frame is judged whole over its length with its kind
   pub written-judged : judge sirad 0 (frameOf k n vs) ≡ Whole k (length (frameOf k n vs))
   written-judged =
-      let w = written (rowOf k n) vs in
-      let row = sym (same-row k (hexValue (take 4 w)) n size-back) in
-      let p = subst (λ (ps : List Piece). Passes (classes ps) w) row (passes (rowOf k n) vs fits) in
-      whole-by-row k (frameOf k n vs) .1 (record { some = some; most = most; start = refl; named = refl; passes = p })
+      let bs = written (rowOf k n) vs in
+      let row = sym (same-row k (hexValue (take 4 bs)) n size-back) in
+      let p = subst (λ (ps : List Piece). Passes (classes ps bs) bs) row (passes (rowOf k n) vs (w .fits)) in
+      whole-by-row k (frameOf k n vs) .1 (record { some = w .some; most = w .most; start = refl; named = refl; passes = p })
 
   -- and has this kind for the readers
   pub written-kind : frameKind (frameOf k n vs) ≡ k
   written-kind = frame-kind k (frameOf k n vs) written-judged
 
--- a frame that is read and written again is the same but for reserved bytes
+-- a frame that is read and written again is the same but for reserved bytes and blocks of value 0
 pub written-again : (k : ℕ) (bs : List ℕ) → 0 < k → frameKind bs ≡ k → frameOf k (hexAt 4 2 bs) (numbersIn k bs) ≡ blankFrame k bs
 written-again k bs p h = rw (again (rowIn k bs) (drop 2 bs) (kind-row k bs p h .passes), kind-starts k bs p h)
 
 -- the numbers of a frame are never refused by the writer
 pub numbers-fit : (k : ℕ) (bs : List ℕ) → 0 < k → frameKind bs ≡ k → fit (rowIn k bs) (numbersIn k bs) ≡ true
 numbers-fit k bs p h = fits-again (rowIn k bs) (drop 2 bs) (kind-row k bs p h .passes)
+
+-- and no target of it would be written as an empty block
+pub numbers-differ : (k : ℕ) (bs : List ℕ) → 0 < k → frameKind bs ≡ k → distinct (rowIn k bs) (numbersIn k bs) ≡ true
+numbers-differ k bs p h = distinct-again (rowIn k bs) (drop 2 bs) (kind-row k bs p h .passes)

@@ -1,8 +1,11 @@
+pub mod ClassLaws
+pub mod BlockLaws
 pub mod ValueLaws
 pub mod FrameLaws
 pub mod PhaseLaws
 pub mod ReadsExactly
 pub mod RoundTrips
+pub mod EmptyBlocks
 pub mod BufferTrips
 pub mod NumberLaws
 pub mod ReadingLaws

@@ -18,14 +18,14 @@ use Rattle.sirad.specs.Sirad.{sirad}
 use Rattle.sirad.specs.Table.{identifier}
 use Rattle.sirad.specs.Rows.{blocks, characters, rPieces, tPieces, uPieces, ePieces, rowOf}
 use Rattle.sirad_fields.specs.declared.Target.{Target}
-use Rattle.sirad_fields.specs.Values.{values, written, fit}
+use Rattle.sirad_fields.specs.Values.{values, written, fit, distinct}
 use Rattle.sirad_fields.specs.Frames.{frameKind, numbersIn, frameOf, ReadsBack, WritesBack}
 use Rattle.sirad_fields.specs.Fields.{isData, dataStart, readData, partOf, dataNumbers, dataRefusal, dataBytes}
-use Rattle.sirad_fields.specs.Fields.{Phases, blockNumbers, readTargets, targetNumbers, unencoded, targetsRefusal}
-use Rattle.sirad_fields.specs.Fields.{targetsBytes, statusFields, readStatus, statusNumbers, sentNumbers}
+use Rattle.sirad_fields.specs.Fields.{Phases, blockNumbers, allCarried, readTargets, targetNumbers, unencoded, unwritable}
+use Rattle.sirad_fields.specs.Fields.{targetsRefusal, targetsBytes, statusFields, readStatus, statusNumbers, sentNumbers}
 use Rattle.sirad_fields.specs.Fields.{statusRefusal, statusBytes, readError, errorRefusal, errorBytes}
-use Rattle.sirad_fields.proofs.FrameLaws.{data-range, frame-kind, kind-length, numbers-back, size-back}
-use Rattle.sirad_fields.proofs.FrameLaws.{written-judged, written-kind, written-again, numbers-fit}
+use Rattle.sirad_fields.proofs.FrameLaws.{data-range, frame-kind, kind-length, Writable, numbers-back, size-back}
+use Rattle.sirad_fields.proofs.FrameLaws.{written-judged, written-kind, written-again, numbers-fit, numbers-differ}
 use Rattle.sirad_fields.proofs.ReadsExactly.{error-kind, status-kind, targets-kind, data-found, data-read}
 use Rattle.sirad_fields.proofs.PhaseLaws.{numbers-targets, targets-numbers}
 
@@ -34,31 +34,27 @@ pub not-refused : (fits : Bool) → unencoded fits ≡ 0 → fits ≡ true
 not-refused true h = refl
 not-refused false h = absurd (omega arith)
 
+-- targets that are not refused fit, and none would be written as an empty block
+pub distinct-not-refused : (fits differs : Bool) → unwritable fits differs ≡ 0 → (fits ≡ true) × (differs ≡ true)
+distinct-not-refused true true h = (refl, refl)
+distinct-not-refused true false h = absurd (omega arith)
+distinct-not-refused false differs h = absurd (omega arith)
+
 -- a frame without a size field, whatever its numbers
-module _ (k : ℕ) (vs : List ℕ) (big : 3 < k) (most : k ≤ 6) (fits : fit (rowOf k 0) vs ≡ true) where
-  unsized-judged : judge sirad 0 (frameOf k 0 vs) ≡ Whole k (length (frameOf k 0 vs))
-  unsized-judged = written-judged k 0 vs (omega arith) most (λ l. absurd (omega arith)) fits
-
-  unsized-kind : frameKind (frameOf k 0 vs) ≡ k
-  unsized-kind = written-kind k 0 vs (omega arith) most (λ l. absurd (omega arith)) fits
-
-  unsized-numbers : values (rowOf k 0) (written (rowOf k 0) vs) ≡ vs
-  unsized-numbers = numbers-back k 0 vs (omega arith) most (λ l. absurd (omega arith)) fits
+unsized : (k : ℕ) (vs : List ℕ) → 3 < k → k ≤ 6 → fit (rowOf k 0) vs ≡ true → distinct (rowOf k 0) vs ≡ true → Writable k 0 vs
+unsized k vs big most fits differs =
+    record { some = omega arith; most = most; sizes = λ l. absurd (omega arith); fits = fits; differs = differs }
 
 -- -- Error flags
 
 -- flags that are written are read back
 pub error-written-reads-back : (flags : ℕ) → errorRefusal flags ≡ 0
     → ReadsBack 6 (errorBytes flags) readError (record { refusal = 0; flags = flags })
-unfolding readError
+unfolding readError distinct
 error-written-reads-back flags h =
-    let f = not-refused (fit ePieces (flags ∷ [])) h in
-    let most : 6 ≤ 6 = omega arith in
-    let big : 3 < 6 = omega arith in
-    record {
-      judged = unsized-judged 6 (flags ∷ []) big most f;
-      reads = rw (unsized-kind 6 (flags ∷ []) big most f, unsized-numbers 6 (flags ∷ []) big most f);
-    }
+    let vs = flags ∷ [] in
+    let w = unsized 6 vs (omega arith) (omega arith) (not-refused (fit ePieces vs) h) refl in
+    record { judged = written-judged 6 0 vs w; reads = rw (written-kind 6 0 vs w, numbers-back 6 0 vs w) }
 
 -- flags that are read and written again are the same frame
 pub error-read-writes-back : (bs : List ℕ) → readError bs .refusal ≡ 0
@@ -76,13 +72,11 @@ pub status-written-reads-back : (format gain accuracy range ramp bandwidth time 
     → statusRefusal (statusNumbers format gain accuracy range ramp bandwidth time) ≡ 0
     → ReadsBack 5 (statusBytes (statusNumbers format gain accuracy range ramp bandwidth time)) readStatus
     (statusFields (statusNumbers format gain accuracy range ramp bandwidth time))
-unfolding readStatus
+unfolding readStatus distinct
 status-written-reads-back format gain accuracy range ramp bandwidth time h =
     let vs = statusNumbers format gain accuracy range ramp bandwidth time in
-    let f = not-refused (fit uPieces vs) h in
-    let most : 5 ≤ 6 = omega arith in
-    let big : 3 < 5 = omega arith in
-    record { judged = unsized-judged 5 vs big most f; reads = rw (unsized-kind 5 vs big most f, unsized-numbers 5 vs big most f) }
+    let w = unsized 5 vs (omega arith) (omega arith) (not-refused (fit uPieces vs) h) refl in
+    record { judged = written-judged 5 0 vs w; reads = rw (written-kind 5 0 vs w, numbers-back 5 0 vs w) }
 
 -- a status that is read and written again is the same frame
 pub status-read-writes-back : (bs : List ℕ) → readStatus bs .refusal ≡ 0
@@ -95,22 +89,18 @@ status-read-writes-back bs h =
 
 -- -- Targets
 
--- targets that are written are read back
+-- targets that are written are read back, and empty blocks as empty
 pub targets-written-read-back : (format gain : ℕ) (ts : List Target) → Phases ts → targetsRefusal format gain ts ≡ 0
-    → ReadsBack 4 (targetsBytes format gain ts) readTargets (record { refusal = 0; format = format; gain = gain; targets = ts })
+    → ReadsBack 4 (targetsBytes format gain ts) readTargets (record { refusal = 0; format = format; gain = gain; targets = allCarried ts })
 unfolding readTargets targetNumbers fit
 targets-written-read-back format gain ts p h =
     let vs = targetNumbers format gain ts in
-    let f = not-refused (fit tPieces vs) h in
+    let f = distinct-not-refused (fit tPieces vs) (distinct tPieces vs) h in
     let r : fit (blocks 16) (blockNumbers ts) ≡ true =
     and-right (isCharacter gain) (fit (blocks 16) (blockNumbers ts))
-    (and-right (ltb format 16) (isCharacter gain && fit (blocks 16) (blockNumbers ts)) f) in
-    let most : 4 ≤ 6 = omega arith in
-    let big : 3 < 4 = omega arith in
-    record {
-      judged = unsized-judged 4 vs big most f;
-      reads = rw (unsized-kind 4 vs big most f, unsized-numbers 4 vs big most f, targets-numbers 16 ts p r);
-    }
+    (and-right (ltb format 16) (isCharacter gain && fit (blocks 16) (blockNumbers ts)) (f .0)) in
+    let w = unsized 4 vs (omega arith) (omega arith) (f .0) (f .1) in
+    record { judged = written-judged 4 0 vs w; reads = rw (written-kind 4 0 vs w, numbers-back 4 0 vs w, targets-numbers 16 ts p r) }
 
 -- the numbers of what a reader gives are those of the frame
 target-numbers : (bs : List ℕ) → frameKind bs ≡ 4 → fit tPieces (values tPieces (drop 2 bs)) ≡ true
@@ -123,7 +113,7 @@ target-numbers bs k h =
     let r = and-right (isCharacter gain) (fit (blocks 16) vs) (and-right (ltb format 16) (isCharacter gain && fit (blocks 16) vs) h) in
     rw (k, numbers-targets 16 vs r)
 
--- targets that are read and written again are the same frame but for reserved bytes
+-- targets that are read and written again are the same frame but for reserved bytes and blocks of value 0
 pub targets-read-write-back : (bs : List ℕ) → readTargets bs .refusal ≡ 0
     → WritesBack 4 (targetsRefusal (readTargets bs .format) (readTargets bs .gain) (readTargets bs .targets))
     (targetsBytes (readTargets bs .format) (readTargets bs .gain) (readTargets bs .targets)) bs
@@ -131,7 +121,7 @@ targets-read-write-back bs h =
     let k = targets-kind bs h in
     let p : 0 < 4 = omega arith in
     let e = target-numbers bs k (numbers-fit 4 bs p k) in
-    record { fits = rw (e, numbers-fit 4 bs p k); same = rw e (written-again 4 bs p k) }
+    record { fits = rw (e, numbers-fit 4 bs p k, numbers-differ 4 bs p k); same = rw e (written-again 4 bs p k) }
 
 -- -- Data frames
 
@@ -179,6 +169,15 @@ data-fits k cs h = go (isData k) (leb (length cs) 65535) (fit (rPieces (length c
     go true false c x y z e = absurd (omega arith)
     go false b c x y z e = absurd (omega arith)
 
+characters-distinct : (n : ℕ) (vs : List ℕ) → distinct (characters n) vs ≡ true
+unfolding distinct characters
+characters-distinct zero vs = refl
+characters-distinct (suc n) vs = characters-distinct n (drop 1 vs)
+
+data-distinct : (n : ℕ) (vs : List ℕ) → distinct (rPieces n) vs ≡ true
+unfolding distinct
+data-distinct n vs = characters-distinct n (drop 1 vs)
+
 -- a data frame as a frame of its kind's row
 module _ (k : ℕ) (cs : List ℕ) (d : DataFits k cs) where
   low : 1 ≤ k
@@ -187,23 +186,29 @@ module _ (k : ℕ) (cs : List ℕ) (d : DataFits k cs) where
   high : k ≤ 3
   high = data-range k (d .kinds) .1
 
-  row-fits : fit (rowOf k (length cs)) (dataNumbers cs) ≡ true
-  row-fits = rw (le-leb k 3 high) (d .fits)
+  writable : Writable k (length cs) (dataNumbers cs)
+  writable = record {
+    some = low;
+    most = omega (arith, high);
+    sizes = λ l. refl;
+    fits = rw (le-leb k 3 high) (d .fits);
+    differs = rw (le-leb k 3 high) (data-distinct (length cs) (dataNumbers cs));
+  }
 
   data-judged : judge sirad 0 (dataBytes k cs) ≡ Whole k (length (dataBytes k cs))
   unfolding dataBytes
-  data-judged = rw (le-leb k 3 high) at (written-judged k (length cs) (dataNumbers cs) low (omega (arith, high)) (λ l. refl) row-fits)
+  data-judged = rw (le-leb k 3 high) at (written-judged k (length cs) (dataNumbers cs) writable)
 
   data-kind : frameKind (dataBytes k cs) ≡ k
   data-kind = frame-kind k (dataBytes k cs) data-judged
 
   data-size : hexAt 4 2 (dataBytes k cs) ≡ length cs
   unfolding dataBytes
-  data-size = rw (le-leb k 3 high) at (size-back k (length cs) (dataNumbers cs) low (omega (arith, high)) (λ l. refl) row-fits high)
+  data-size = rw (le-leb k 3 high) at (size-back k (length cs) (dataNumbers cs) writable high)
 
   data-numbers : values (rPieces (length cs)) (drop 2 (dataBytes k cs)) ≡ dataNumbers cs
   unfolding dataBytes
-  data-numbers = rw (le-leb k 3 high) at (numbers-back k (length cs) (dataNumbers cs) low (omega (arith, high)) (λ l. refl) row-fits)
+  data-numbers = rw (le-leb k 3 high) at (numbers-back k (length cs) (dataNumbers cs) writable)
 
   data-part : take (length cs) (drop dataStart (dataBytes k cs)) ≡ cs
   data-part =

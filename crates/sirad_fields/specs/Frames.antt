@@ -40,7 +40,7 @@ numbersIn kind bs = values (rowIn kind bs) (drop 2 bs)
 abbrev pub frameOf : ℕ → ℕ → List ℕ → List ℕ
 frameOf kind n vs = 33 ∷ identifier kind ∷ written (rowOf kind n) vs
 
--- the frame with every reserved byte as `0`
+-- the frame with every reserved byte as `0`, and blocks of value 0 as `0` (paper 02, (ii))
 abbrev pub blankFrame : ℕ → List ℕ → List ℕ
 blankFrame kind bs = take 2 bs ++ blank (rowIn kind bs) (drop 2 bs)
 
@@ -51,7 +51,8 @@ pub record ReadsBack {A : Type 0} (kind : ℕ) (bytes : List ℕ) (read : List �
   pub judged : judge sirad 0 bytes ≡ Whole kind (length bytes)
   pub reads : read bytes ≡ fields
 
--- the writer refuses no value that was read, and writes the frame read with reserved bytes as `0` (paper 01, "Refusal numbers")
+-- the writer refuses no value that was read, and writes the frame read with reserved bytes and blocks of value 0 as `0`
+-- (paper 01, "Refusal numbers"; paper 02, (ii))
 pub record WritesBack (kind refusal : ℕ) (bytes frame : List ℕ) : Type 0 where
   pub fits : refusal ≡ 0
   pub same : bytes ≡ blankFrame kind frame

@@ -10,16 +10,23 @@ ghost use Rattle.form.specs.Numbers.{Judges};
 ghost use Rattle.sirad.specs.Rows.{ending, blocks, tPieces, uPieces, ePieces};
 ghost use Rattle.sirad.specs.Sirad.{row, number, head, sized, kindOf, sirad};
 use form::Judgement;
-use sirad::Class;
+use sirad::ByteClass;
 use sirad::Kind;
 use sirad_pieces::NO_DIGIT;
+use sirad_pieces::NO_STOP;
 use sirad_pieces::block_at;
 use sirad_pieces::byte_of;
 use sirad_pieces::chars;
+use sirad_pieces::fixed_at;
 use sirad_pieces::hexes;
 
 // The byte that starts every frame and stands nowhere else in one.
 pub const START_MARKER: u8 = b'!';
+
+// The stop marker.
+const CR: u8 = 13;
+
+const LF: u8 = 10;
 
 // The reasons of the first two bytes (paper 01, "Judging a place").
 pub const NO_START: u32 = 10;
@@ -89,11 +96,11 @@ fn hex_number(s: &[u8], from: usize, n: usize) -> Judgement
 fn stop(s: &[u8], at: usize, kind: u32) -> Judgement
     ensures { λ r. ⌜ r ≡ judgeAt (row ending kind) at (now (s .entry)) ⌝ }
 {
-    let a = byte_of(s, at, Class::Cr);
+    let a = fixed_at(s, at, CR, NO_STOP);
     let Judgement::Whole(_, i) = a else {
         return a;
     };
-    let b = byte_of(s, i, Class::Lf);
+    let b = fixed_at(s, i, LF, NO_STOP);
     let Judgement::Whole(_, e) = b else {
         return b;
     };
@@ -104,11 +111,11 @@ fn stop(s: &[u8], at: usize, kind: u32) -> Judgement
 fn head_at(s: &[u8], at: usize) -> Judgement
     ensures { λ r. ⌜ r ≡ judgeAt head at (now (s .entry)) ⌝ }
 {
-    let a = byte_of(s, at, Class::Hex);
+    let a = byte_of(s, at, ByteClass::Hex);
     let Judgement::Whole(_, i) = a else {
         return a;
     };
-    let b = byte_of(s, i, Class::Char);
+    let b = byte_of(s, i, ByteClass::Char);
     let Judgement::Whole(_, e) = b else {
         return b;
     };

@@ -1,58 +1,56 @@
-// The pieces of a SiRad frame: single bytes, runs of bytes, and the blocks of a target list (paper 01, "SiRad").
+// The pieces of a SiRad frame: single bytes, runs of bytes, and the blocks of a target list (paper 01, "SiRad"; paper 02, (ii)).
 
 ghost use mathlib.Core.Path.{_≡_};
 ghost use mathlib.Core.Bool.{true};
 ghost use Prim.Native.Nat.{_+_, _≤_};
+ghost use lib.Dec.{eqb};
 ghost use lib.ListN.{length};
 ghost use Rattle.form.specs.Form.{judgeAt};
 ghost use Rattle.form.specs.Numbers.{Judges};
 ghost use Rattle.form.specs.Pieces.{one};
-ghost use Rattle.sirad.specs.Classes.{accepts, reason};
-ghost use Rattle.sirad.specs.Sirad.{run, block};
-ghost use Rattle.sirad.specs.Internal.{StepOf};
+ghost use Rattle.sirad.specs.Classes.{Hex, Char, accepts, reason};
+ghost use Rattle.sirad.specs.Rows.{behindNumber};
+ghost use Rattle.sirad.specs.Sirad.{lay, run, target, block};
+ghost use Rattle.sirad.specs.Internal.{classOf, StepOf};
 use form::Judgement;
-use sirad::Class;
+use sirad::ByteClass;
 
-const CR: u8 = 13;
-
-const LF: u8 = 10;
-
-// The reasons of these pieces (paper 01, "Judging a place").
+// The reasons of these pieces (paper 01, "Judging a place"; paper 02, (ii)).
 pub const NO_DIGIT: u32 = 12;
 
 pub const NO_CHARACTER: u32 = 13;
 
 pub const NO_STOP: u32 = 14;
 
+pub const BROKEN_EMPTY: u32 = 17;
+
 const BLOCK_BYTES: usize = 14;
 
 // Bytes that are tested together; any number from 1 on would do.
 const CHUNK: usize = 64;
 
-fn is_of(c: Class, b: u8) -> bool
-    ensures { λ r. ⌜ r ≡ accepts c b ⌝ }
+fn is_of(c: ByteClass, b: u8) -> bool
+    ensures { λ r. ⌜ r ≡ accepts (classOf c) b ⌝ }
 {
     match c {
-        Class::Hex => digits::is_hex(b),
-        Class::Char => digits::is_character(b),
-        Class::Cr => b == CR,
-        Class::Lf => b == LF,
+        ByteClass::Hex => digits::is_hex(b),
+        ByteClass::Char => digits::is_character(b),
+        ByteClass::Zero => b == 0,
     }
 }
 
-fn reason_of(c: Class) -> u32
-    ensures { λ r. ⌜ r ≡ reason c ⌝ }
+fn reason_of(c: ByteClass) -> u32
+    ensures { λ r. ⌜ r ≡ reason (classOf c) ⌝ }
 {
     match c {
-        Class::Hex => NO_DIGIT,
-        Class::Char => NO_CHARACTER,
-        Class::Cr => NO_STOP,
-        Class::Lf => NO_STOP,
+        ByteClass::Hex => NO_DIGIT,
+        ByteClass::Char => NO_CHARACTER,
+        ByteClass::Zero => BROKEN_EMPTY,
     }
 }
 
-pub fn byte_of(s: &[u8], at: usize, c: Class) -> Judgement
-    ensures { λ r. ⌜ Judges (one (reason c) (accepts c)) at (now (s .entry)) r ⌝ }
+pub fn byte_of(s: &[u8], at: usize, c: ByteClass) -> Judgement
+    ensures { λ r. ⌜ Judges (one (reason (classOf c)) (accepts (classOf c))) at (now (s .entry)) r ⌝ }
 {
     if s.len() <= at {
         return Judgement::Waiting; // the byte may still come
@@ -66,9 +64,25 @@ pub fn byte_of(s: &[u8], at: usize, c: Class) -> Judgement
     Judgement::Bad(reason_of(c))
 }
 
+// A byte that is fixed, and the reason of any other.
+pub fn fixed_at(s: &[u8], at: usize, fixed: u8, reason: u32) -> Judgement
+    ensures { λ r. ⌜ Judges (one reason (λ b. eqb b fixed)) at (now (s .entry)) r ⌝ }
+{
+    if s.len() <= at {
+        return Judgement::Waiting;
+    }
+    let b = s[at];
+    if b == fixed {
+        let end = at + 1;
+        let v = b as u32;
+        return Judgement::Whole(v, end);
+    }
+    Judgement::Bad(reason)
+}
+
 // n bytes of a class, one by one: finds the first that fails.
-fn span(s: &[u8], from: usize, n: usize, c: Class) -> Judgement
-    ensures { λ r. ⌜ r ≡ judgeAt (run n c) from (now (s .entry)) ⌝ }
+fn span(s: &[u8], from: usize, n: usize, c: ByteClass) -> Judgement
+    ensures { λ r. ⌜ r ≡ judgeAt (run n (classOf c)) from (now (s .entry)) ⌝ }
 {
     let mut at = from;
     let mut left = n;
@@ -84,9 +98,9 @@ fn span(s: &[u8], from: usize, n: usize, c: Class) -> Judgement
 }
 
 // Whether all n bytes are of the class, without a branch on data; false says nothing.
-fn all_of(s: &[u8], from: usize, n: usize, c: Class) -> bool
+fn all_of(s: &[u8], from: usize, n: usize, c: ByteClass) -> bool
     requires { ⌜ from + n ≤ length (now s) ⌝ }
-    ensures { λ r. ⌜ (r ≡ true → judgeAt (run n c) from (now (s .entry)) ≡ Judgement.Whole 0 (from + n)) ⌝ }
+    ensures { λ r. ⌜ (r ≡ true → judgeAt (run n (classOf c)) from (now (s .entry)) ≡ Judgement.Whole 0 (from + n)) ⌝ }
 {
     let mut ok = true;
     let mut i: usize = 0;
@@ -100,32 +114,32 @@ fn all_of(s: &[u8], from: usize, n: usize, c: Class) -> bool
 
 // n hex digits, tested together; one by one where they fail. With a class for a parameter the loop would ask for it at each byte.
 pub fn hexes(s: &[u8], from: usize, n: usize) -> Judgement
-    ensures { λ r. ⌜ Judges (run n Class.Hex) from (now (s .entry)) r ⌝ }
+    ensures { λ r. ⌜ Judges (run n Hex) from (now (s .entry)) r ⌝ }
 {
     if from <= s.len() {
         if n <= s.len() - from {
-            if all_of(s, from, n, Class::Hex) {
+            if all_of(s, from, n, ByteClass::Hex) {
                 let end = from + n;
                 return Judgement::Whole(0, end);
             }
         }
     }
-    span(s, from, n, Class::Hex)
+    span(s, from, n, ByteClass::Hex)
 }
 
 // A few characters, in the same way.
 fn few_chars(s: &[u8], from: usize, n: usize) -> Judgement
-    ensures { λ r. ⌜ r ≡ judgeAt (run n Class.Char) from (now (s .entry)) ⌝ }
+    ensures { λ r. ⌜ r ≡ judgeAt (run n Char) from (now (s .entry)) ⌝ }
 {
     if from <= s.len() {
         if n <= s.len() - from {
-            if all_of(s, from, n, Class::Char) {
+            if all_of(s, from, n, ByteClass::Char) {
                 let end = from + n;
                 return Judgement::Whole(0, end);
             }
         }
     }
-    span(s, from, n, Class::Char)
+    span(s, from, n, ByteClass::Char)
 }
 
 fn step_of(left: usize) -> usize
@@ -136,7 +150,7 @@ fn step_of(left: usize) -> usize
 
 // n characters, a chunk at a time: a size off the wire costs no more than a chunk behind the byte that fails.
 pub fn chars(s: &[u8], from: usize, n: usize) -> Judgement
-    ensures { λ r. ⌜ Judges (run n Class.Char) from (now (s .entry)) r ⌝ }
+    ensures { λ r. ⌜ Judges (run n Char) from (now (s .entry)) r ⌝ }
 {
     let mut at = from;
     let mut left = n;
@@ -152,37 +166,63 @@ pub fn chars(s: &[u8], from: usize, n: usize) -> Judgement
     Judgement::Whole(0, at)
 }
 
-// Whether a block stands, without a branch on data; false says nothing.
-fn seen_block(s: &[u8], p: usize) -> bool
+// Whether a target's bytes behind its number stand, without a branch on data; false says nothing.
+fn seen_behind(s: &[u8], p: usize) -> bool
     requires { ⌜ p + 14 ≤ length (now s) ⌝ }
-    ensures { λ r. ⌜ (r ≡ true → judgeAt block p (now (s .entry)) ≡ Judgement.Whole 0 (p + 14)) ⌝ }
+    ensures { λ r. ⌜ (r ≡ true → judgeAt (lay behindNumber 0) (p + 1) (now (s .entry)) ≡ Judgement.Whole 0 (p + 14)) ⌝ }
 {
-    let a = all_of(s, p, 5, Class::Hex);
-    let b = all_of(s, p + 5, 1, Class::Char);
-    let c = all_of(s, p + 6, 4, Class::Hex);
-    let d = all_of(s, p + 10, 4, Class::Char);
+    let a = all_of(s, p + 1, 4, ByteClass::Hex);
+    let b = all_of(s, p + 5, 1, ByteClass::Char);
+    let c = all_of(s, p + 6, 4, ByteClass::Hex);
+    let d = all_of(s, p + 10, 4, ByteClass::Char);
     let e = digits::both(a, b);
     let f = digits::both(c, d);
     digits::both(e, f)
 }
 
-// A block byte by byte: finds the first that fails.
-fn block_slowly(s: &[u8], at: usize) -> Judgement
-    ensures { λ r. ⌜ r ≡ judgeAt block at (now (s .entry)) ⌝ }
+// Whether a block stands, of the form that its first byte chooses; false says nothing.
+fn seen_block(s: &[u8], p: usize) -> bool
+    requires { ⌜ p + 14 ≤ length (now s) ⌝ }
+    ensures { λ r. ⌜ (r ≡ true → judgeAt block p (now (s .entry)) ≡ Judgement.Whole 0 (p + 14)) ⌝ }
 {
-    let a = span(s, at, 5, Class::Hex);
+    let b = s[p];
+    if digits::is_hex(b) {
+        return seen_behind(s, p);
+    }
+    all_of(s, p, BLOCK_BYTES, ByteClass::Zero)
+}
+
+// A target byte by byte: finds the first that fails.
+fn target_slowly(s: &[u8], at: usize) -> Judgement
+    ensures { λ r. ⌜ r ≡ judgeAt target at (now (s .entry)) ⌝ }
+{
+    let a = span(s, at, 5, ByteClass::Hex);
     let Judgement::Whole(_, i) = a else {
         return a;
     };
-    let b = span(s, i, 1, Class::Char);
+    let b = span(s, i, 1, ByteClass::Char);
     let Judgement::Whole(_, j) = b else {
         return b;
     };
-    let c = span(s, j, 4, Class::Hex);
+    let c = span(s, j, 4, ByteClass::Hex);
     let Judgement::Whole(_, k) = c else {
         return c;
     };
-    span(s, k, 4, Class::Char)
+    span(s, k, 4, ByteClass::Char)
+}
+
+// A block byte by byte: a first byte of value 0 commits the other thirteen, any other starts a target.
+fn block_slowly(s: &[u8], at: usize) -> Judgement
+    ensures { λ r. ⌜ r ≡ judgeAt block at (now (s .entry)) ⌝ }
+{
+    if s.len() <= at {
+        return Judgement::Waiting;
+    }
+    let first = s[at];
+    if first == 0 {
+        return span(s, at, BLOCK_BYTES, ByteClass::Zero);
+    }
+    target_slowly(s, at)
 }
 
 pub fn block_at(s: &[u8], from: usize) -> Judgement

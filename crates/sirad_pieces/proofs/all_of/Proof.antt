@@ -4,12 +4,13 @@ use borrow.Author.Needs.{needs}
 use mathlib.Core.Bool.{true}
 use mathlib.Core.Path.{_≡_}
 use native.Mathlib.Omega.{arith}
+use Rattle.sirad.specs.Internal.{classOf}
 use Rattle.sirad.proofs.Runs.{Seen, seen-none, seen-next, seen-all}
 use Rattle.sirad_pieces.proofs.all_of.Statement.{statement}
 use Rattle.sirad_pieces.proofs.all_of.Tie as tie
 
 abbrev Inv-loop : tie.InvT-loop
-Inv-loop s from n c ok₀ i₀ ok i = (i ≤ n) × (ok ≡ true → Seen s from n c i)
+Inv-loop s from n c ok₀ i₀ ok i = (i ≤ n) × (ok ≡ true → Seen s from n (classOf c) i)
 
 abbrev μ-loop : tie.MeasureT-loop
 μ-loop s from n c ok₀ i₀ ok i = n - i
@@ -42,7 +43,7 @@ loop-again c =
     let a = start .args in
     let l = lp .loop in (
       omega arith,
-      seen-next (a .s .now) (a .from) (a .n) (a .c) (l .i) (l .ok) (i .is-of .result) (c .both .result) (turn .loop-test .taken)
+      seen-next (a .s .now) (a .from) (a .n) (classOf (a .c)) (l .i) (l .ok) (i .is-of .result) (c .both .result) (turn .loop-test .taken)
           (start .pre) (l .inv .1) (i .is-of .ensures) (c .both .ensures),
     )
 
@@ -50,7 +51,7 @@ returns : tie.Need-returns Inv-loop μ-loop
 returns c =
     let lp = c .before in let start = lp .before .before in
     λ y. let a = start .args in let l = lp .loop in
-    seen-all (a .s .now) (a .from) (a .n) (a .c) (l .i) (l .inv .0) (c .loop-test .left) (l .inv .1 y)
+    seen-all (a .s .now) (a .from) (a .n) (classOf (a .c)) (l .i) (l .inv .0) (c .loop-test .left) (l .inv .1 y)
 
 pub all-of-spec : {M : Type 1} → statement M
 all-of-spec =

@@ -1,4 +1,4 @@
--- All seen at once, or else run by run.
+-- All seen at once, or else byte by byte.
 use borrow.Author.Needs.{needs}
 use Rattle.form.proofs.PieceLaws.{judges}
 use mathlib.Core.Path.{sym}

@@ -1,72 +1,33 @@
--- The four runs of a block, one after the other.
+-- The first byte chooses the form.
 use borrow.Author.Needs.{needs}
 use mathlib.Core.Path.{sym, _∙_}
-use Rattle.form.proofs.PieceLaws.{go-on, halt}
-use Rattle.sirad.proofs.FrameLaws.{block-form}
+use Rattle.sirad.proofs.FrameLaws.{block-ends, block-zeros, block-target}
 use Rattle.sirad_pieces.proofs.block_slowly.Statement.{statement}
 use Rattle.sirad_pieces.proofs.block_slowly.Tie as tie
+
+returns : tie.Need-returns
+returns c = block-ends _ _ (c .if1 .taken)
+
+shared-slice-read-first : tie.Need-shared-slice-read-first
+shared-slice-read-first c = search needs
 
 span-requires : tie.Need-span-requires
 span-requires c κs = search needs
 
-enum-known-a : tie.Need-enum-known-a
-enum-known-a c = search needs
-
-returns : tie.Need-returns
-returns c = halt _ _ _ _ (c .before .span .ensures) (c .match .keys2)
-    ∙ sym (block-form _ _)
-
-span-requires-2 : tie.Need-span-requires-2
-span-requires-2 c κs = search needs
-
-enum-known-b : tie.Need-enum-known-b
-enum-known-b c = search needs
-
 returns-2 : tie.Need-returns-2
 returns-2 c =
-    let s2 = c .before in let a = s2 .before .before in let s = a .before .before in
-    halt _ _ _ _ (s2 .span2 .ensures) (c .match2 .keys2) ∙ sym (go-on _ _ _ _ (s .span .ensures) (a .a .given .1)) ∙ sym (block-form _ _)
+    let zero = c .before in let read = zero .before .before in
+    c .span .ensures ∙ sym (block-zeros _ _ (read .if1 .left) (zero .if2 .taken))
 
-span-requires-3 : tie.Need-span-requires-3
-span-requires-3 c κs = search needs
-
-enum-known-c : tie.Need-enum-known-c
-enum-known-c c = search needs
+target-slowly-requires : tie.Need-target-slowly-requires
+target-slowly-requires c κs = search needs
 
 returns-3 : tie.Need-returns-3
 returns-3 c =
-    let s3 = c .before in let b = s3 .before .before in let s2 = b .before .before in
-    let a = s2 .before .before in let s = a .before .before in
-    halt _ _ _ _ (s3 .span3 .ensures) (c .match3 .keys2)
-    ∙ sym (go-on _ _ _ _ (s2 .span2 .ensures) (b .b .given .1))
-    ∙ sym (go-on _ _ _ _ (s .span .ensures) (a .a .given .1))
-    ∙ sym (block-form _ _)
-
-span-requires-4 : tie.Need-span-requires-4
-span-requires-4 c κs = search needs
-
-returns-4 : tie.Need-returns-4
-returns-4 c =
-    let w = c .before .before in let s3 = w .before .before in let b = s3 .before .before in
-    let s2 = b .before .before in let a = s2 .before .before in let s = a .before .before in
-    c .span4 .ensures
-    ∙ sym (go-on _ _ _ _ (s3 .span3 .ensures) (w .c .given .1))
-    ∙ sym (go-on _ _ _ _ (s2 .span2 .ensures) (b .b .given .1))
-    ∙ sym (go-on _ _ _ _ (s .span .ensures) (a .a .given .1))
-    ∙ sym (block-form _ _)
+    let other = c .before in let read = other .before .before in
+    c .target-slowly .ensures ∙ sym (block-target _ _ (read .if1 .left) (other .if2 .left))
 
 pub block-slowly-spec : {M : Type 1} → statement M
 block-slowly-spec =
     tie.close
-    (tie.spec
-    span-requires
-    enum-known-a
-    returns
-    span-requires-2
-    enum-known-b
-    returns-2
-    span-requires-3
-    enum-known-c
-    returns-3
-    span-requires-4
-    returns-4)
+    (tie.spec returns shared-slice-read-first span-requires returns-2 target-slowly-requires returns-3)

@@ -5,7 +5,7 @@ use mathlib.Core.Path.{_≡_, refl, sym, _∙_}
 use native.Mathlib.Omega.{arith}
 use Rattle.form.specs.Form.{judgeAt}
 use Rattle.sirad.specs.Sirad.{run}
-use Rattle.sirad.specs.declared.Class.the-variants.{Char}
+use Rattle.sirad.specs.Classes.{Char}
 use Rattle.sirad.proofs.Runs.{run-over, part-next, part-halts}
 use Rattle.sirad_pieces.proofs.chars.Statement.{statement}
 use Rattle.sirad_pieces.proofs.chars.Tie as tie

@@ -18,9 +18,6 @@ is-character-requires c κs = search needs
 enum-told-3 : tie.Need-enum-told-3
 enum-told-3 c = search needs
 
-enum-told-4 : tie.Need-enum-told-4
-enum-told-4 c = search needs
-
 returns : tie.Need-returns
 returns c = rw (c .before .enum-told .given .1) (c .is-hex .ensures)
 
@@ -29,9 +26,6 @@ returns-2 c = rw (c .before .enum-told2 .given .1) (c .is-character .ensures)
 
 returns-3 : tie.Need-returns-3
 returns-3 c = rw (c .enum-told3 .given .1)
-
-returns-4 : tie.Need-returns-4
-returns-4 c = rw (c .enum-told4 .given .1)
 
 pub is-of-spec : {M : Type 1} → statement M
 is-of-spec =
@@ -42,8 +36,6 @@ is-of-spec =
     enum-told-2
     is-character-requires
     enum-told-3
-    enum-told-4
     returns
     returns-2
-    returns-3
-    returns-4)
+    returns-3)

@@ -1,60 +1,32 @@
--- The four runs of a block, and the flag of all.
+-- The form that the first byte chooses, seen at once.
 use borrow.Author.Needs.{needs}
-use Rattle.sirad.proofs.FrameLaws.{block-seen}
+use mathlib.Core.Path.{sym, _∙_}
+use native.Mathlib.Omega.{arith}
+use Rattle.sirad.proofs.FrameLaws.{held-block, zeros-block}
 use Rattle.sirad_pieces.proofs.seen_block.Statement.{statement}
 use Rattle.sirad_pieces.proofs.seen_block.Tie as tie
+
+shared-slice-read-b : tie.Need-shared-slice-read-b
+shared-slice-read-b c = search needs
+
+is-hex-requires : tie.Need-is-hex-requires
+is-hex-requires c κs = search needs
+
+seen-behind-requires : tie.Need-seen-behind-requires
+seen-behind-requires c κs = search needs
+
+returns : tie.Need-returns
+returns c =
+    let digit = c .before in
+    λ y. held-block _ _ (omega arith) (sym (digit .before .is-hex .ensures) ∙ digit .if1 .taken) (c .seen-behind .ensures y)
 
 all-of-requires : tie.Need-all-of-requires
 all-of-requires c κs = search needs
 
-add-all-of : tie.Need-add-all-of
-add-all-of c = search needs
-
-all-of-requires-2 : tie.Need-all-of-requires-2
-all-of-requires-2 c κs = search needs
-
-add-all-of-2 : tie.Need-add-all-of-2
-add-all-of-2 c = search needs
-
-all-of-requires-3 : tie.Need-all-of-requires-3
-all-of-requires-3 c κs = search needs
-
-add-all-of-3 : tie.Need-add-all-of-3
-add-all-of-3 c = search needs
-
-all-of-requires-4 : tie.Need-all-of-requires-4
-all-of-requires-4 c κs = search needs
-
-both-requires : tie.Need-both-requires
-both-requires c κs = search needs
-
-both-requires-2 : tie.Need-both-requires-2
-both-requires-2 c κs = search needs
-
-both-requires-3 : tie.Need-both-requires-3
-both-requires-3 c κs = search needs
-
-returns : tie.Need-returns
-returns c =
-    let b2 = c .before in let b = b2 .before in let a4 = b .before in let a3 = a4 .before in
-    let a2 = a3 .before in let o = a2 .before in let start = o .before .before in
-    let a = start .args in
-    block-seen (a .p) (a .s .now) (o .all-of .result) (a2 .all-of2 .result) (a3 .all-of3 .result) (a4 .all-of4 .result) (b .both .result)
-    (b2 .both2 .result) (c .both3 .result) (o .all-of .ensures) (a2 .all-of2 .ensures) (a3 .all-of3 .ensures) (a4 .all-of4 .ensures)
-    (b .both .ensures) (b2 .both2 .ensures) (c .both3 .ensures)
+returns-2 : tie.Need-returns-2
+returns-2 c = λ y. zeros-block _ _ (omega arith) (c .all-of .ensures y)
 
 pub seen-block-spec : {M : Type 1} → statement M
 seen-block-spec =
     tie.close
-    (tie.spec
-    all-of-requires
-    add-all-of
-    all-of-requires-2
-    add-all-of-2
-    all-of-requires-3
-    add-all-of-3
-    all-of-requires-4
-    both-requires
-    both-requires-2
-    both-requires-3
-    returns)
+    (tie.spec shared-slice-read-b is-hex-requires seen-behind-requires returns all-of-requires returns-2)

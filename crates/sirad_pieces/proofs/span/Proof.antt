@@ -3,12 +3,13 @@ use borrow.Author.Needs.{needs}
 use mathlib.Core.Path.{_≡_, refl, sym, _∙_}
 use Rattle.form.specs.Form.{judgeAt}
 use Rattle.sirad.specs.Sirad.{run}
+use Rattle.sirad.specs.Internal.{classOf}
 use Rattle.sirad.proofs.Runs.{run-next, run-halts, run-over}
 use Rattle.sirad_pieces.proofs.span.Statement.{statement}
 use Rattle.sirad_pieces.proofs.span.Tie as tie
 
 abbrev Inv-loop : tie.InvT-loop
-Inv-loop s from n c at₀ left₀ at left = judgeAt (run n c) from s ≡ judgeAt (run left c) at s
+Inv-loop s from n c at₀ left₀ at left = judgeAt (run n (classOf c)) from s ≡ judgeAt (run left (classOf c)) at s
 
 abbrev μ-loop : tie.MeasureT-loop
 μ-loop s from n c at₀ left₀ at left = left
