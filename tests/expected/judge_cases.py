@@ -1,7 +1,7 @@
 #!/usr/bin/env python3
 """The slices that judge_cases reads, and the lines it prints of them, from paper 01 ("SiRad", "mmWave", "Judging a place", "Values at
-the edges"), paper 02 (i) and documents 000, 002 and 004 alone. `judge_cases.py stdin` writes the slices, each behind its length in four
-bytes.
+the edges"), paper 02 (i) and (ii) and documents 000, 002 and 004 alone. `judge_cases.py stdin` writes the slices, each behind its length
+in four bytes.
 
 The judgement of a packet is read off the paper by searching: a length, a type or a record count passes if some choice of what
 follows ends so that L is the smallest multiple of 32 not below the end of the last record, or, for vital signs, that end itself.
@@ -20,8 +20,9 @@ STDIN = pathlib.Path(__file__).resolve().parent.parent.parent / "crates" / "judg
 HEX = frozenset(b"0123456789ABCDEF")
 CHARACTER = frozenset(range(34, 255))
 BLOCK = [(1, HEX, 12), (4, HEX, 12), (1, CHARACTER, 13), (4, HEX, 12), (4, CHARACTER, 13)]
+VALUE_0 = [(14, b"\0", 17)]
 BODY = {
-    ord("T"): (4, [(1, HEX, 12), (1, CHARACTER, 13)] + 16 * BLOCK),
+    ord("T"): (4, [(1, HEX, 12), (1, CHARACTER, 13)]),
     ord("U"): (5, [(1, HEX, 12), (1, CHARACTER, 13)] + 5 * [(4, HEX, 12)]),
     ord("E"): (6, [(4, HEX, 12)]),
 }
@@ -48,6 +49,9 @@ def sirad(bs):
     elif bs[1] in BODY:
         kind, fields = BODY[bs[1]]
         at = 2
+        if kind == 4:
+            # A first byte 0 commits the other thirteen bytes of its block.
+            fields = sum((VALUE_0 if bs[4 + 14 * i:5 + 14 * i] == b"\0" else BLOCK for i in range(16)), fields)
     else:
         return ("bad", 11)
     for count, allowed, reason in fields + [(1, b"\r", 14), (1, b"\n", 14)]:
@@ -216,6 +220,23 @@ def whole_frames():
     return [part for frame in frames for part in (frame, frame[:-1])]
 
 
+def empty_blocks():
+    """T frames of two targets and fourteen empty blocks: of `0`, of value 0, by turns, with a target behind them; sixteen of value 0. One
+    with a byte behind it, and cut before, in and behind a block of value 0. Then bytes that end with the one that breaks such a block; a
+    block that goes on as one of `0`; a byte 0 in a block of `0`, in a target, as format, gain and stop; reserved bytes at the limits."""
+    two, zeros, value_0, last = b"!T5Z10200Z80000000" + b"20400Z00640000", b"0" * 14, bytes(14), b"F1234\"7FFF0000"
+    reserved = b"0000000000\"zZ\xfe"
+    frames = [two + rest + b"\r\n" for rest in (14 * zeros, 14 * value_0, 7 * (value_0 + reserved), 6 * (zeros + value_0) + value_0 + last)]
+    frames.append(b"!T5Z" + 16 * value_0 + b"\r\n")
+    whole = frames + [frames[1] + b"\0"] + [frames[1][:end] for end in (32, 33, 45, 46, 47, 227, 228, 229)]
+    broken = [frames[1][:32 + i] + byte for i in (1, 4, 5, 9, 10, 13) for byte in (b"0", b"\1", b"\xff")]
+    behind = [two + value_0[:i] + zeros[i:] + 13 * zeros + b"\r\n" for i in (1, 9, 10, 13)]
+    zero = [frames[0][:32 + i] + b"\0" + frames[0][33 + i:] for i in (0, 1, 5, 6, 9, 10, 13)]
+    zero += [frames[1][:i] + b"\0" + frames[1][i + 1:] for i in (2, 3, 4, 5, 9, 14, 18, 228, 229)]
+    marked = [two + zeros[:10] + byte + b"000" + 13 * value_0 + b"\r\n" for byte in (b"!", b"\"", b"\xfe", b"\xff")]
+    return whole + broken + behind + zero + marked
+
+
 def packet(total, objects, records, behind=b"", ends=None, subframe=3):
     """A header with free fields of their own, what follows it, and zeros up to the end; or only the first bytes of that."""
     ends = total if ends is None else ends
@@ -289,8 +310,8 @@ def both_dialects():
 
 
 def slices():
-    return (starts() + error_frames() + data_frames() + whole_frames() + edges() + refused_packets() + three_records() + most_records()
-            + vital_edges() + four_types() + both_dialects())
+    return (starts() + error_frames() + data_frames() + whole_frames() + empty_blocks() + edges() + refused_packets() + three_records()
+            + most_records() + vital_edges() + four_types() + both_dialects())
 
 
 def main():

@@ -22,6 +22,8 @@ pub const NOT_A_HEX_DIGIT: u32 = 12;
 pub const NOT_A_CHARACTER: u32 = 13;
 /// 14: wrong stop marker.
 pub const WRONG_STOP_MARKER: u32 = 14;
+/// 17: a byte other than 0 in a block of a T frame whose first byte is 0.
+pub const BROKEN_EMPTY_BLOCK: u32 = 17;
 /// 20: not the magic.
 pub const WRONG_MAGIC: u32 = 20;
 /// 21: the total length L is not legal.
@@ -47,7 +49,7 @@ pub enum Judgement {
     },
     /// No frame stands there, whatever bytes follow.
     Bad {
-        /// 10 to 14 for SiRad, 20 to 24 for mmWave, these and 26 for vital signs: the first check that fails.
+        /// 10 to 14 and 17 for SiRad, 20 to 24 for mmWave, these and 26 for vital signs: the first check that fails.
         reason: u32,
     },
     /// No check has failed and the frame is not all there.

@@ -1,16 +1,16 @@
-//! A plain reader of the radar wires, written from paper 01 ("What gets built and its exact rules"), paper 02 (i) and the
-//! makers' documents 000 to 004 alone. It is slow where slow is clearer, and it exists to be compared with.
+//! A plain reader of the radar wires, written from paper 01 ("What gets built and its exact rules"), paper 02 (i) and (ii)
+//! and the makers' documents 000 to 004 alone. It is slow where slow is clearer, and it exists to be compared with.
 //!
 //! | Module | What it holds | Paper 01; paper 02 |
 //! |---|---|---|
 //! | [`refusal`] | the refusal numbers and the size limits | "Refusal numbers" |
 //! | [`judgement`] | whole, bad or waiting, for each dialect | "Judging a place" |
-//! | [`sirad`] | the judgement of SiRad frames | "The three wires" |
+//! | [`sirad`] | the judgement of SiRad frames | "The three wires"; (ii) |
 //! | [`packet_rules`] | the judgement of packets, by the rules of a dialect | "The three wires" |
 //! | [`mmwave`], [`vital_signs`] | the rules of each packet dialect | "The three wires"; (i) |
 //! | [`reading`] | the open and the closed reading, the choice of two lines | "Two readings" |
 //! | [`numbers`] | dB, phase, accuracy, millimetres | "Numbers" |
-//! | [`sirad_fields`], [`packet`] | what a whole frame holds, and SiRad writing | "Fields" |
+//! | [`sirad_fields`], [`packet`] | what a whole frame holds, and SiRad writing | "Fields"; (ii) |
 //! | [`demorad`] | command words, both ways | "DemoRad" |
 //! | [`listing`] | what the listing programs print | "The listing" |
 //!

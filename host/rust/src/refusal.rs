@@ -1,4 +1,4 @@
-//! The refusal numbers and the two size limits (paper 01, "Refusal numbers").
+//! The refusal numbers and the two size limits (paper 01, "Refusal numbers"; paper 02).
 //!
 //! "A refusal returns its number, every other number 0, and writes nothing."
 
@@ -45,6 +45,8 @@ pub const OUTPUT_TOO_SHORT: Refusal = 51;
 pub const TOO_MUCH_DATA: Refusal = 52;
 /// 53: an unknown kind.
 pub const UNKNOWN_KIND: Refusal = 53;
+/// 54: a target whose written block would be all `0`.
+pub const EMPTY_TARGET: Refusal = 54;
 
 /// The most bytes that a judgement or a reading is lent.
 pub const MAX_BYTES: usize = 1_048_576;

@@ -1,10 +1,11 @@
-//! The judgement of SiRad frames (paper 01, "The three wires"; documents 000 and 003).
+//! The judgement of SiRad frames (paper 01, "The three wires"; paper 02 (ii); documents 000 and 003).
 //!
 //! "A frame is byte 33 `!`, an identifier, a body, then 13 and 10." It is judged byte by byte: each byte is either
 //! missing (then the place waits), or it fails its check (then the place is bad), or the next byte is looked at.
 
 use crate::judgement::{
-    Judgement, NOT_A_CHARACTER, NOT_A_HEX_DIGIT, NO_START_MARKER, UNKNOWN_IDENTIFIER, WRONG_STOP_MARKER,
+    Judgement, BROKEN_EMPTY_BLOCK, NOT_A_CHARACTER, NOT_A_HEX_DIGIT, NO_START_MARKER, UNKNOWN_IDENTIFIER,
+    WRONG_STOP_MARKER,
 };
 
 /// Kind 1, identifier R: range data.
@@ -28,9 +29,11 @@ pub const STOP_MARKER: [u8; 2] = [13, 10];
 pub const IDENTIFIERS: [u8; 6] = *b"RPCTUE";
 /// Reserved bytes of a frame with data, between its size and its characters.
 pub const DATA_RESERVED: usize = 8;
-/// Target blocks in a T frame.
+/// Blocks in a T frame.
 pub const BLOCKS: usize = 16;
-/// Reserved bytes at the end of a target block.
+/// The bytes of a block.
+pub const BLOCK_LENGTH: usize = 14;
+/// Reserved bytes at the end of a block.
 pub const BLOCK_RESERVED: usize = 4;
 /// The bytes of a T frame.
 pub const TARGETS_LENGTH: usize = 230;
@@ -110,8 +113,12 @@ impl Front<'_> {
         Ok(())
     }
 
-    /// Number (1 hex), distance (4 hex), magnitude (char), phase (4 hex), 4 reserved.
+    /// Number (1 hex), distance (4 hex), magnitude (char), phase (4 hex), 4 reserved; or fourteen bytes of value 0: "a first
+    /// byte 0 commits the other thirteen".
     fn block(&mut self) -> Result<(), Judgement> {
+        if self.bytes.get(self.place) == Some(&0) {
+            return (0..BLOCK_LENGTH).try_for_each(|_| self.marker(0, BROKEN_EMPTY_BLOCK));
+        }
         self.hex(1)?;
         self.hex(4)?;
         self.characters(1)?;
@@ -215,6 +222,33 @@ mod tests {
         assert_eq!(judge(b"!Rg\x00"), bad(12));
         assert_eq!(judge(b"!Tg\x00"), bad(12));
         assert_eq!(judge(b"!T0\x00g"), bad(13));
+    }
+
+    #[test]
+    fn a_first_byte_0_commits_the_other_thirteen() {
+        let mut frame = [b"!T5Z".as_slice(), &[0; 14 * 16], b"\r\n"].concat();
+        for end in 0..frame.len() {
+            assert_eq!(judge(&frame[..end]), Judgement::Waiting);
+        }
+        assert_eq!(judge(&frame), whole(TARGETS, 230));
+        for place in 5..18 {
+            for byte in [1, b'0', b'"', 255] {
+                frame[place] = byte;
+                assert_eq!(judge(&frame[..place]), Judgement::Waiting);
+                assert_eq!(judge(&frame[..=place]), bad(17));
+                assert_eq!(judge(&frame), bad(17));
+            }
+            frame[place] = 0;
+        }
+        // The two forms and a target side by side; a byte 0 in a target has the reason that it had.
+        let mut frame = [b"!T5Z".as_slice(), &[0; 14], b"00000000000000", b"10200Z80000000"].concat();
+        assert_eq!(judge(&frame), Judgement::Waiting);
+        for (place, reason) in [(2, 12), (3, 13), (19, 12), (23, 13), (27, 12), (28, 13), (31, 13), (33, 12), (45, 13)]
+        {
+            let byte = std::mem::replace(&mut frame[place], 0);
+            assert_eq!(judge(&frame), bad(reason), "{place}");
+            frame[place] = byte;
+        }
     }
 
     #[test]

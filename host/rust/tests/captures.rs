@@ -3,11 +3,12 @@
 use std::fs;
 use std::path::PathBuf;
 
-use radar_reference::generate::{capture, monitor, points, Family, LISTING_EXAMPLE};
+use radar_reference::generate::{capture, monitor, points, targets, Family, LISTING_EXAMPLE};
 use radar_reference::judgement::{judge, Judgement, MMWAVE, SIRAD, VITAL_SIGNS};
 use radar_reference::listing::listing;
 use radar_reference::packet::{point, record, Point};
 use radar_reference::reading::{closed_reading, open_reading, ROW};
+use radar_reference::sirad_fields::{read_targets, Target};
 
 /// Where the captures are, from this package.
 const DIRECTORY: &str = "../../captures";
@@ -44,9 +45,45 @@ fn sirad_with_noise_has_all_kinds() {
     }
 }
 
+/// The reasons that come at the places of these bytes, each once.
+fn reasons(dialect: u32, bytes: &[u8]) -> Vec<u32> {
+    let judgements = (0..bytes.len()).map(|place| judge(dialect, bytes, place));
+    let mut reasons: Vec<u32> = judgements
+        .filter_map(|judgement| match judgement {
+            Ok(Judgement::Bad { reason }) => Some(reason),
+            _ => None,
+        })
+        .collect();
+    reasons.sort_unstable();
+    reasons.dedup();
+    reasons
+}
+
 #[test]
-fn sirad_hostile() {
-    check("sirad-hostile", SIRAD, &capture(SIRAD, Family::Hostile, 5, 1500));
+fn sirad_hostile_has_all_reasons() {
+    let made = capture(SIRAD, Family::Hostile, 22, 1500);
+    check("sirad-hostile", SIRAD, &made);
+    assert_eq!(reasons(SIRAD, &made), [10, 11, 12, 13, 14, 17]);
+}
+
+#[test]
+fn sirad_empty_blocks_of_both_forms() {
+    let made = targets(4, 8);
+    check("sirad-empty-blocks", SIRAD, &made);
+    let mut table = [0; ROW * 9];
+    let reading = closed_reading(SIRAD, &made, &mut table).unwrap();
+    let mut forms = [0; 2];
+    for row in table.chunks_exact(ROW).take(reading.rows) {
+        let frame = &made[row[0] as usize..][..row[1] as usize];
+        let blocks = read_targets(frame).unwrap().blocks;
+        assert!(blocks[..2].iter().all(|target| target.empty == 0 && target.distance > 0));
+        assert_eq!(blocks[2..], [Target { empty: 1, ..Target::default() }; 14]);
+        forms[usize::from(frame[32] == 0)] += 1;
+    }
+    // The sixth is broken.
+    assert_eq!((reading.rows, forms), (7, [4, 3]));
+    let broken = (0..made.len()).filter(|&place| judge(SIRAD, &made, place) == Ok(Judgement::Bad { reason: 17 }));
+    assert_eq!(broken.count(), 1);
 }
 
 #[test]
@@ -103,13 +140,5 @@ fn vital_signs_hostile_waits_in_the_middle() {
     let open = open_reading(VITAL_SIGNS, &made, &mut table).unwrap();
     let closed = closed_reading(VITAL_SIGNS, &made, &mut table).unwrap();
     assert!(open.next < 1000 && open.rows < closed.rows);
-    let mut reasons: Vec<u32> = (0..made.len())
-        .filter_map(|place| match judge(VITAL_SIGNS, &made, place) {
-            Ok(Judgement::Bad { reason }) => Some(reason),
-            _ => None,
-        })
-        .collect();
-    reasons.sort_unstable();
-    reasons.dedup();
-    assert_eq!(reasons, [20, 21, 22, 23, 24, 26]);
+    assert_eq!(reasons(VITAL_SIGNS, &made), [20, 21, 22, 23, 24, 26]);
 }

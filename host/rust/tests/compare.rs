@@ -15,7 +15,7 @@ use radar_reference::{mmwave, vital_signs};
 const JUDGEMENTS: u64 = 1_000_000;
 const READINGS: u64 = 12_000;
 const CONVERSIONS: u64 = 1_000_000;
-const SPLIT_CAPTURES: u64 = 600;
+const SPLIT_CAPTURES: u64 = 3000;
 
 fn first_seed() -> u64 {
     std::env::var("VQ_SEED").map_or(1, |seed| seed.parse().expect("VQ_SEED is a number"))
@@ -33,7 +33,7 @@ fn assert_all_judgements_seen(tally: &Tally) {
         assert!(tally.of(&format!("whole {kind}")) >= 300, "{kind} in {tally}");
     }
     assert!(tally.of("waiting") >= 300, "{tally}");
-    for reason in [10, 11, 12, 13, 14, 20, 21, 22, 23, 24, 26] {
+    for reason in [10, 11, 12, 13, 14, 17, 20, 21, 22, 23, 24, 26] {
         assert!(tally.of(&format!("bad {reason}")) >= 300, "{reason} in {tally}");
     }
     for refusal in 1..=3 {
@@ -376,8 +376,8 @@ fn told_as(dialect: u32, bytes: &[u8], reason: u32, otherwise: fn(&[u8]) -> Judg
 }
 
 /// The shortest front that is bad.
-fn seen_at(bytes: &[u8]) -> usize {
-    (0..=bytes.len()).find(|&end| right(2, &bytes[..end]).state == BAD).expect("a bad place")
+fn seen_at(dialect: u32, bytes: &[u8]) -> usize {
+    (0..=bytes.len()).find(|&end| right(dialect, &bytes[..end]).state == BAD).expect("a bad place")
 }
 
 const WRONG_VITAL_SIGNS: &[(&str, Wrong)] = &[
@@ -586,20 +586,20 @@ const WRONG_VITAL_SIGNS: &[(&str, Wrong)] = &[
     ),
     (
         "a type that can't fit waits for its length",
-        Wrong::Judge(|d, b| told_as(d, b, 23, |b| if b.len() < seen_at(b) + 4 { waiting() } else { bad(24) })),
+        Wrong::Judge(|d, b| told_as(d, b, 23, |b| if b.len() < seen_at(2, b) + 4 { waiting() } else { bad(24) })),
     ),
     (
         "a last type 3 that leaves a rest waits",
         Wrong::Judge(|d, b| {
-            told_as(d, b, 23, |b| match b.len() - seen_at(b) {
-                ..4 if b[seen_at(b) - 4..seen_at(b)] == [3, 0, 0, 0] => waiting(),
+            told_as(d, b, 23, |b| match b.len() - seen_at(2, b) {
+                ..4 if b[seen_at(2, b) - 4..seen_at(2, b)] == [3, 0, 0, 0] => waiting(),
                 _ => bad(23),
             })
         }),
     ),
     (
         "a length that leaves no room waits for the rest",
-        Wrong::Judge(|d, b| told_as(d, b, 24, |b| if b.len() < seen_at(b) + 4 { waiting() } else { bad(24) })),
+        Wrong::Judge(|d, b| told_as(d, b, 24, |b| if b.len() < seen_at(2, b) + 4 { waiting() } else { bad(24) })),
     ),
     ("a wrong length is told as a type", Wrong::Judge(|d, b| told_as(d, b, 24, |_| bad(23)))),
     ("the kind is 16", Wrong::Rules(Rules { kind: 16, ..RIGHT })),
@@ -640,9 +640,183 @@ const WRONG_VITAL_SIGNS: &[(&str, Wrong)] = &[
     ("a dialect has 8 bits", Wrong::JudgeAt(|d, b, place| Reference.judge(d & 255, b, place))),
 ];
 
+/// The judgement of a T frame of which each block, the last cut off perhaps, is changed first.
+fn blocks_with(dialect: u32, bytes: &[u8], change: fn(&mut [u8])) -> Judgement {
+    let mut changed = bytes.to_vec();
+    if dialect == 0 && bytes.starts_with(b"!T") {
+        let end = changed.len().clamp(4, 228);
+        changed.get_mut(4..end).unwrap_or_default().chunks_mut(14).for_each(change);
+    }
+    right(dialect, &changed)
+}
+
+/// Puts a `0` for each byte 0 in this part of a block that is not of value 0.
+fn forgive(block: &mut [u8], part: std::ops::Range<usize>) {
+    let skipped = if block[0] == 0 { block.len() } else { part.start };
+    block.iter_mut().take(part.end).skip(skipped).filter(|byte| **byte == 0).for_each(|byte| *byte = b'0');
+}
+
+/// The judgement of a T frame with this byte for a byte 0 at a place outside its blocks.
+fn for_byte_0(dialect: u32, bytes: &[u8], place: usize, other: u8) -> Judgement {
+    let mut changed = bytes.to_vec();
+    match changed.get_mut(place) {
+        Some(byte) if dialect == 0 && bytes.starts_with(b"!T") && *byte == 0 => *byte = other,
+        _ => (),
+    }
+    right(dialect, &changed)
+}
+
+/// The judgement, but this reason for a whole T frame of which some block and the one behind it (none behind the last) are
+/// such.
+fn bad_with(dialect: u32, bytes: &[u8], reason: u32, such: fn(&[u8], &[u8]) -> bool) -> Judgement {
+    match right(dialect, bytes) {
+        right if right.kind == 4 => {
+            let blocks: Vec<&[u8]> = bytes[4..228].chunks(14).chain([&[][..]]).collect();
+            let found = blocks.windows(2).any(|pair| such(pair[0], pair[1]));
+            if found {
+                bad(reason)
+            } else {
+                right
+            }
+        }
+        right => right,
+    }
+}
+
+/// What becomes of a broken block of value 0; the second number is the place of its wrong byte.
+fn broken_as(dialect: u32, bytes: &[u8], otherwise: fn(&[u8], usize) -> Judgement) -> Judgement {
+    match right(dialect, bytes) {
+        right if right.reason == 17 => otherwise(bytes, seen_at(dialect, bytes) - 1),
+        right => right,
+    }
+}
+
+const WRONG_EMPTY_BLOCKS: &[(&str, Wrong)] = &[
+    (
+        "a block of value 0 is refused with 12",
+        Wrong::Judge(|d, b| blocks_with(d, b, |block| block[0] = if block[0] == 0 { b'G' } else { block[0] })),
+    ),
+    ("a broken block is told as not a hex digit", Wrong::Judge(|d, b| broken_as(d, b, |_, _| bad(12)))),
+    ("a broken block is told as not a character", Wrong::Judge(|d, b| broken_as(d, b, |_, _| bad(13)))),
+    (
+        "a broken block is told by the field of its byte",
+        Wrong::Judge(|d, b| {
+            broken_as(d, b, |_, place| bad(if b"xxxxxcxxxxcccc"[(place - 4) % 14] == b'x' { 12 } else { 13 }))
+        }),
+    ),
+    (
+        "a broken block is seen at its end",
+        Wrong::Judge(|d, b| {
+            broken_as(d, b, |b, place| if b.len() < 4 + (place - 4).next_multiple_of(14) { waiting() } else { bad(17) })
+        }),
+    ),
+    (
+        "a first byte 0 alone makes a block empty",
+        Wrong::Judge(|d, b| {
+            blocks_with(d, b, |block| {
+                if block[0] == 0 {
+                    block.fill(0)
+                }
+            })
+        }),
+    ),
+    (
+        "thirteen bytes of value 0 are enough",
+        Wrong::Judge(|d, b| {
+            blocks_with(d, b, |block| {
+                if block[0] == 0 {
+                    block.iter_mut().skip(13).for_each(|byte| *byte = 0);
+                }
+            })
+        }),
+    ),
+    (
+        "ten bytes of value 0 and four characters are an empty block",
+        Wrong::Judge(|d, b| {
+            blocks_with(d, b, |block| {
+                if block.starts_with(&[0; 10]) {
+                    block[10..].iter_mut().filter(|byte| (34..255).contains(*byte)).for_each(|byte| *byte = 0);
+                }
+            })
+        }),
+    ),
+    (
+        "bytes 0 and `0` may be mixed in an empty block",
+        Wrong::Judge(|d, b| {
+            blocks_with(d, b, |block| {
+                if block.iter().all(|byte| [0, b'0'].contains(byte)) {
+                    block.fill(b'0')
+                }
+            })
+        }),
+    ),
+    ("a byte 0 is fine in any byte of a target", Wrong::Judge(|d, b| blocks_with(d, b, |block| forgive(block, 1..14)))),
+    ("a byte 0 is fine as magnitude", Wrong::Judge(|d, b| blocks_with(d, b, |block| forgive(block, 5..6)))),
+    ("a byte 0 is fine as reserved byte", Wrong::Judge(|d, b| blocks_with(d, b, |block| forgive(block, 10..14)))),
+    (
+        "a byte 0 in a target is told as 17",
+        Wrong::Judge(|d, b| match right(d, b) {
+            right if d == 0 && [12, 13].contains(&right.reason) && b.starts_with(b"!T") => {
+                let place = seen_at(d, b) - 1;
+                bad(if place > 3 && b[place] == 0 { 17 } else { right.reason })
+            }
+            right => right,
+        }),
+    ),
+    ("a format of value 0 is fine", Wrong::Judge(|d, b| for_byte_0(d, b, 2, b'0'))),
+    ("a gain of value 0 is fine", Wrong::Judge(|d, b| for_byte_0(d, b, 3, b'0'))),
+    ("a carriage return of value 0 is fine", Wrong::Judge(|d, b| for_byte_0(d, b, 228, 13))),
+    ("a line feed of value 0 is fine", Wrong::Judge(|d, b| for_byte_0(d, b, 229, 10))),
+    (
+        "the first block is a target",
+        Wrong::Judge(|d, b| match b {
+            [b'!', b'T', _, _, 0, ..] if d == 0 && ![12, 13].contains(&right(d, &b[..4]).reason) => bad(12),
+            _ => right(d, b),
+        }),
+    ),
+    (
+        "the last block is a target",
+        Wrong::Judge(|d, b| bad_with(d, b, 12, |block, next| block[0] == 0 && next.is_empty())),
+    ),
+    (
+        "no target stands behind a block of value 0",
+        Wrong::Judge(|d, b| {
+            bad_with(d, b, 17, |block, next| block[0] == 0 && next.first().is_some_and(|&byte| byte != 0))
+        }),
+    ),
+    (
+        "the two forms do not go together",
+        Wrong::Judge(|d, b| {
+            bad_with(d, b, 17, |block, next| block.starts_with(&[b'0'; 10]) && next.first() == Some(&0))
+        }),
+    ),
+    ("a block of `0` is refused", Wrong::Judge(|d, b| bad_with(d, b, 17, |block, _| block == [b'0'; 14]))),
+    (
+        "an empty block has `0` as reserved bytes",
+        Wrong::Judge(|d, b| bad_with(d, b, 13, |block, _| block.starts_with(&[b'0'; 10]) && block != [b'0'; 14])),
+    ),
+    (
+        "the reserved bytes of an empty block are free",
+        Wrong::Judge(|d, b| {
+            blocks_with(d, b, |block| {
+                if block.starts_with(&[b'0'; 10]) {
+                    block.fill(b'0')
+                }
+            })
+        }),
+    ),
+    (
+        "sixteen blocks of value 0 are no frame",
+        Wrong::Judge(|d, b| match right(d, b) {
+            right if right.kind == 4 && b[4..228] == [0; 224] => bad(17),
+            right => right,
+        }),
+    ),
+];
+
 #[test]
 fn wrong_judgements_are_found() {
-    for (name, wrong) in WRONG_JUDGEMENTS.iter().chain(WRONG_VITAL_SIGNS) {
+    for (name, wrong) in WRONG_JUDGEMENTS.iter().chain(WRONG_VITAL_SIGNS).chain(WRONG_EMPTY_BLOCKS) {
         let found = compare_judgements(wrong, first_seed(), JUDGEMENTS);
         assert!(found.is_err(), "not found: {name}");
     }
@@ -879,7 +1053,9 @@ fn wrong_answers_are_found_by_splitting() {
     let vital_signs = ["the last byte is not waited for", "a type that can't fit waits for its length"];
     let vital_signs = WRONG_VITAL_SIGNS.iter().filter(|(name, _)| vital_signs.contains(name));
     assert_eq!(vital_signs.clone().count(), 2);
-    for (name, wrong) in by_splitting.iter().chain(vital_signs) {
+    let empty_blocks = WRONG_EMPTY_BLOCKS.iter().filter(|(name, _)| *name == "a broken block is seen at its end");
+    assert_eq!(empty_blocks.clone().count(), 1);
+    for (name, wrong) in by_splitting.iter().chain(vital_signs).chain(empty_blocks) {
         let found = compare_splits(wrong, first_seed(), SPLIT_CAPTURES);
         assert!(found.is_err(), "not found: {name}");
     }

@@ -76,6 +76,13 @@ fn sirad_judgements_of_all_short_words() {
     each_word(b"!U", b"0Z \xff5", 5, &mut check);
     each_word(b"!U5Z0123456789ABCDEF0000", b"\r\n0", 3, &mut check);
     each_word(b"!T", b"0\"gZ", 8, &mut check);
+    each_word(b"!T5Z", b"\00\"g", 7, &mut check);
+    each_word(b"!T5Z\0\0\0\0\0\0\0\0\0\0\0", b"\0\x010\"", 6, &mut check);
+    each_word(b"!T5Z000000", b"\00\" ", 8, &mut check);
+    for block in [[0; 14], [b'0'; 14]] {
+        let front = [b"!T5Z".as_slice(), &block.repeat(16)[..220]].concat();
+        each_word(&front, b"\00\r\n", 5, &mut check);
+    }
     println!("{words} words");
 }
 
@@ -92,6 +99,8 @@ fn sirad_judgements_of_all_single_bytes_anywhere_in_a_frame() {
     for number in 0..16 {
         targets.extend_from_slice(format!("{number:X}0200Z8000zzzz").as_bytes());
     }
+    let empty_behind = |block: [u8; 14]| [&targets[..32], &block.repeat(14), b"\r\n"].concat();
+    frames.extend([empty_behind([0; 14]), empty_behind(*b"0000000000zzzz")]);
     frames.push([targets, b"\r\n".to_vec()].concat());
     for frame in frames {
         for place in 0..frame.len() {

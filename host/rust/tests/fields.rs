@@ -5,7 +5,8 @@
 //! seed than the usual one.
 
 use radar_reference::abi::fields::{
-    Command, DataFrame, ErrorFrame, FieldSubject, Header, Point, Record, StatusFrame, Step, TargetFrame, Written,
+    Command, DataFrame, ErrorFrame, FieldSubject, Header, Point, Record, StatusFrame, Step, Target, TargetFrame,
+    Written,
 };
 use radar_reference::abi::Reference;
 use radar_reference::compare::fields::{
@@ -34,7 +35,10 @@ const FRAMES: Run = Run {
         ("read_data, kind 3", 10_000),
         ("read_data, refused 5", 30_000),
         ("read_targets", 10_000),
+        ("read_targets, an empty block of `0`", 20_000),
+        ("read_targets, an empty block of value 0", 20_000),
         ("read_targets, refused 5", 100_000),
+        ("write_targets again", 10_000),
         ("read_status", 10_000),
         ("read_status, refused 5", 100_000),
         ("read_error", 10_000),
@@ -126,6 +130,7 @@ const WRITTEN_FRAMES: Run = Run {
         ("write_targets", 5000),
         ("write_targets, refused 50", 1000),
         ("write_targets, refused 51", 1000),
+        ("write_targets, refused 54", 1000),
         ("write_status", 5000),
         ("write_status, refused 50", 1000),
         ("write_status, refused 51", 1000),
@@ -625,6 +630,31 @@ const WRONG_WRITTEN_COMMANDS: &[(&str, Wrong)] = &[
     ),
 ];
 
+/// The T frame as read, but for its blocks: each is changed by what it is in the frame and as read.
+fn blocks_with(frame: &[u8], change: fn(&[u8], Target) -> Target) -> TargetFrame {
+    let mut right = Reference.read_targets(frame);
+    if right.refusal == 0 {
+        for (block, target) in frame[4..].chunks(14).zip(&mut right.targets) {
+            *target = change(block, *target);
+        }
+    }
+    right
+}
+
+/// What is read of an empty block.
+const EMPTY: Target = Target { number: 0, empty: 1, distance: 0, magnitude: 0, phase: 0 };
+
+/// A target whose written block would be all `0`.
+const ALL_ZERO: Target = Target { number: 0, empty: 0, distance: 0, magnitude: 48, phase: 0 };
+
+fn empty_if(empty: bool, target: Target) -> Target {
+    if empty {
+        EMPTY
+    } else {
+        target
+    }
+}
+
 const WRONG_FRAMES: &[(&str, Wrong)] = &[
     (
         "P and C are one kind",
@@ -667,6 +697,110 @@ const WRONG_FRAMES: &[(&str, Wrong)] = &[
         }),
     ),
     (
+        "a block of value 0 is not called empty",
+        Wrong::ReadTargets(|f| {
+            blocks_with(f, |block, target| if block[0] == 0 { Target { empty: 0, ..target } } else { target })
+        }),
+    ),
+    (
+        "a block of `0` is a target",
+        Wrong::ReadTargets(|f| {
+            blocks_with(f, |block, target| if block[..10] == [b'0'; 10] { ALL_ZERO } else { target })
+        }),
+    ),
+    (
+        "a block of `0` with other reserved bytes is a target",
+        Wrong::ReadTargets(|f| {
+            blocks_with(f, |block, target| match block.split_at(10) {
+                (b"0000000000", reserved) if reserved != b"0000" => ALL_ZERO,
+                _ => target,
+            })
+        }),
+    ),
+    (
+        "nine `0` are an empty block",
+        Wrong::ReadTargets(|f| blocks_with(f, |block, target| empty_if(block[..9] == [b'0'; 9], target))),
+    ),
+    (
+        "the number of an empty block is free",
+        Wrong::ReadTargets(|f| blocks_with(f, |block, target| empty_if(block[1..10] == [b'0'; 9], target))),
+    ),
+    (
+        "the magnitude of an empty block is free",
+        Wrong::ReadTargets(|f| {
+            blocks_with(f, |block, target| empty_if(block[..5] == [b'0'; 5] && block[6..10] == [b'0'; 4], target))
+        }),
+    ),
+    (
+        "a target at distance 0 is empty",
+        Wrong::ReadTargets(|f| blocks_with(f, |_, target| empty_if(target.distance == 0, target))),
+    ),
+    (
+        "an empty block keeps its magnitude",
+        Wrong::ReadTargets(|f| {
+            blocks_with(f, |block, target| Target { magnitude: if block[0] == 0 { 0 } else { block[5] }, ..target })
+        }),
+    ),
+    (
+        "an empty block of value 0 has a magnitude of `0`",
+        Wrong::ReadTargets(|f| {
+            blocks_with(f, |block, target| if block[0] == 0 { Target { magnitude: 48, ..target } } else { target })
+        }),
+    ),
+    (
+        "the second form has a number of its own",
+        Wrong::ReadTargets(|f| {
+            blocks_with(f, |block, target| if block[0] == 0 { Target { empty: 2, ..target } } else { target })
+        }),
+    ),
+    (
+        "empty is 0 and a target 1",
+        Wrong::ReadTargets(|f| blocks_with(f, |_, target| Target { empty: 1 - target.empty, ..target })),
+    ),
+    (
+        "the blocks of a refused frame are empty",
+        Wrong::ReadTargets(|f| match Reference.read_targets(f) {
+            right if right.refusal != 0 => TargetFrame { targets: [EMPTY; 16], ..right },
+            right => right,
+        }),
+    ),
+    (
+        "targets go before empty blocks",
+        Wrong::ReadTargets(|f| {
+            let mut right = Reference.read_targets(f);
+            right.targets.sort_by_key(|target| target.empty);
+            right
+        }),
+    ),
+    (
+        "all blocks behind an empty one are empty",
+        Wrong::ReadTargets(|f| {
+            let mut right = Reference.read_targets(f);
+            let first = right.targets.iter().position(|target| target.empty == 1).unwrap_or(16);
+            right.targets[first..].fill(EMPTY);
+            right
+        }),
+    ),
+    (
+        "a frame with blocks of value 0 is refused",
+        Wrong::ReadTargets(|f| match Reference.read_targets(f) {
+            right if right.refusal == 0 && f[4..].chunks(14).any(|block| block[0] == 0) => {
+                TargetFrame { refusal: 5, ..TargetFrame::default() }
+            }
+            right => right,
+        }),
+    ),
+    (
+        "a block that breaks is read as empty",
+        Wrong::ReadTargets(|f| {
+            let mut mended = f.to_vec();
+            if f.len() == 230 {
+                mended[4..228].chunks_mut(14).filter(|block| block[0] == 0).for_each(|block| block.fill(0));
+            }
+            Reference.read_targets(&mended)
+        }),
+    ),
+    (
         "the accuracy is cut off to millimetres",
         Wrong::ReadStatus(|f| {
             let right = Reference.read_status(f);
@@ -689,6 +823,22 @@ const WRONG_FRAMES: &[(&str, Wrong)] = &[
         }),
     ),
 ];
+
+/// Writes the frame with other blocks in place of its own.
+fn written_with(output: &mut [u8], frame: TargetFrame, change: fn(usize, Target) -> Target) -> Written {
+    let targets = std::array::from_fn(|index| change(index, frame.targets[index]));
+    Reference.write_targets(output, TargetFrame { targets, ..frame })
+}
+
+/// Refuses 54 also for a target that would be all `0` if one field were.
+fn all_zero_but(output: &mut [u8], frame: TargetFrame, change: fn(&mut Target)) -> Written {
+    let mut targets = frame.targets;
+    targets.iter_mut().for_each(change);
+    match Reference.write_targets(output, frame) {
+        right if [0, 51].contains(&right.refusal) && targets.contains(&ALL_ZERO) => refused(54),
+        right => right,
+    }
+}
 
 const WRONG_WRITTEN_FRAMES: &[(&str, Wrong)] = &[
     (
@@ -742,6 +892,176 @@ const WRONG_WRITTEN_FRAMES: &[(&str, Wrong)] = &[
         Wrong::WriteTargets(|output, mut frame| {
             frame.targets.iter_mut().for_each(|target| target.number &= 15);
             Reference.write_targets(output, frame)
+        }),
+    ),
+    (
+        "54 goes before a 50 of a later block",
+        Wrong::WriteTargets(|output, frame| match Reference.write_targets(output, frame) {
+            right if right.refusal == 50 => {
+                // Nothing is wrong before the first such target.
+                let first = frame.targets.iter().position(|&target| target == ALL_ZERO).unwrap_or(16);
+                let mut before = frame;
+                before.targets[first..].fill(EMPTY);
+                let before = Reference.write_targets(&mut [0; 230], before).refusal;
+                refused(if first < 16 && before == 0 { 54 } else { 50 })
+            }
+            right => right,
+        }),
+    ),
+    (
+        "54 goes before 50",
+        Wrong::WriteTargets(|output, frame| match Reference.write_targets(output, frame) {
+            right if right.refusal == 50 && frame.targets.contains(&ALL_ZERO) => refused(54),
+            right => right,
+        }),
+    ),
+    (
+        "54 goes before an empty value without an encoding",
+        Wrong::WriteTargets(|output, frame| match Reference.write_targets(output, frame) {
+            right if right.refusal == 50 && frame.targets.contains(&ALL_ZERO) => {
+                let known = frame.targets.map(|target| Target { empty: target.empty.min(1), ..target });
+                let known = TargetFrame { targets: known, ..frame };
+                refused(Reference.write_targets(&mut [0; 230], known).refusal)
+            }
+            right => right,
+        }),
+    ),
+    (
+        "51 goes before 54",
+        Wrong::WriteTargets(|output, frame| match Reference.write_targets(output, frame) {
+            right if right.refusal == 54 && output.len() < 230 => refused(51),
+            right => right,
+        }),
+    ),
+    (
+        "54 for an empty block",
+        Wrong::WriteTargets(|output, frame| {
+            let all_zero = |target: &Target| Target { empty: 0, ..*target } == ALL_ZERO;
+            match frame.targets.iter().any(all_zero) {
+                true if [0, 51].contains(&Reference.write_targets(&mut [], frame).refusal) => refused(54),
+                _ => Reference.write_targets(output, frame),
+            }
+        }),
+    ),
+    (
+        "54 for sixteen empty blocks",
+        Wrong::WriteTargets(|output, frame| match frame.targets.iter().all(|target| target.empty == 1) {
+            true if Reference.write_targets(&mut [], frame).refusal == 51 => refused(54),
+            _ => Reference.write_targets(output, frame),
+        }),
+    ),
+    ("54 whatever the number", Wrong::WriteTargets(|o, f| all_zero_but(o, f, |target| target.number = 0))),
+    ("54 whatever the distance", Wrong::WriteTargets(|o, f| all_zero_but(o, f, |target| target.distance = 0))),
+    ("54 whatever the magnitude", Wrong::WriteTargets(|o, f| all_zero_but(o, f, |target| target.magnitude = 48))),
+    ("54 whatever the phase", Wrong::WriteTargets(|o, f| all_zero_but(o, f, |target| target.phase = 0))),
+    (
+        "54 at the first block only",
+        Wrong::WriteTargets(|output, frame| {
+            written_with(output, frame, |index, target| match target {
+                ALL_ZERO if index > 0 => EMPTY,
+                _ => target,
+            })
+        }),
+    ),
+    (
+        "54 at all blocks but the last",
+        Wrong::WriteTargets(|output, frame| {
+            written_with(output, frame, |index, target| match target {
+                ALL_ZERO if index == 15 => EMPTY,
+                _ => target,
+            })
+        }),
+    ),
+    (
+        "54 is told as 50",
+        Wrong::WriteTargets(|output, frame| match Reference.write_targets(output, frame) {
+            right if right.refusal == 54 => refused(50),
+            right => right,
+        }),
+    ),
+    (
+        "a frame refused with 54 is written",
+        Wrong::WriteTargets(|output, frame| {
+            let right = Reference.write_targets(output, frame);
+            if right.refusal == 54 {
+                written_with(output, frame, |_, target| empty_if(target == ALL_ZERO, target));
+            }
+            right
+        }),
+    ),
+    (
+        "a target that would be all `0` is written",
+        Wrong::WriteTargets(|output, frame| {
+            written_with(output, frame, |_, target| empty_if(target == ALL_ZERO, target))
+        }),
+    ),
+    (
+        "an empty block is written as value 0",
+        Wrong::WriteTargets(|output, frame| {
+            let right = Reference.write_targets(output, frame);
+            if right.refusal == 0 {
+                let empty = |index: &usize| frame.targets[*index].empty == 1;
+                (0..16).filter(empty).for_each(|index| output[4 + 14 * index..][..14].fill(0));
+            }
+            right
+        }),
+    ),
+    (
+        "an empty block's reserved bytes stay as they were",
+        Wrong::WriteTargets(|output, frame| {
+            let before = output.to_vec();
+            let right = Reference.write_targets(output, frame);
+            if right.refusal == 0 && frame.targets[0].empty == 1 {
+                output[14..18].copy_from_slice(&before[14..18]);
+            }
+            right
+        }),
+    ),
+    (
+        "the other fields of an empty block are tested",
+        Wrong::WriteTargets(|output, frame| {
+            let targets = frame.targets.map(|target| Target { empty: target.empty & !1, ..target });
+            match Reference.write_targets(&mut [], TargetFrame { targets, ..frame }).refusal {
+                50 => refused(50),
+                _ => Reference.write_targets(output, frame),
+            }
+        }),
+    ),
+    (
+        "the other fields of an empty block are written",
+        Wrong::WriteTargets(|output, frame| {
+            written_with(output, frame, |_, target| match target {
+                Target { empty: 1, number: 0..=15, magnitude: 34..=254, .. } => Target { empty: 0, ..target },
+                _ => target,
+            })
+        }),
+    ),
+    (
+        "an empty value over 1 is 1",
+        Wrong::WriteTargets(|o, f| written_with(o, f, |_, target| Target { empty: target.empty.min(1), ..target })),
+    ),
+    (
+        "an empty value is its lowest bit",
+        Wrong::WriteTargets(|o, f| written_with(o, f, |_, target| Target { empty: target.empty & 1, ..target })),
+    ),
+    (
+        "an empty value over 1 is a target's",
+        Wrong::WriteTargets(|o, f| {
+            written_with(o, f, |_, target| Target { empty: u8::from(target.empty == 1), ..target })
+        }),
+    ),
+    (
+        "what stands behind an empty block is not tested",
+        Wrong::WriteTargets(|output, frame| {
+            let first = frame.targets.iter().position(|target| target.empty == 1).unwrap_or(16);
+            match Reference.write_targets(output, frame) {
+                right if right.refusal == 50 && first < 15 => {
+                    let mut tested = frame;
+                    tested.targets[first..].fill(EMPTY);
+                    Reference.write_targets(output, tested)
+                }
+                right => right,
+            }
         }),
     ),
     (

@@ -111,16 +111,16 @@ fn data_read() {
 
 /// A T frame whose first blocks hold the ends of all ranges, and whose last is this one.
 fn targets_of(format: u8, gain: u8, last: Target) -> TargetFrame {
-    let mut targets = [Target { number: 5, distance: 512, magnitude: 90, phase: 100 }; 16];
-    targets[0] = Target { number: 15, distance: 65_535, magnitude: 254, phase: -32_768 };
-    targets[1] = Target { number: 0, distance: 0, magnitude: 34, phase: -1 };
+    let mut targets = [Target { number: 5, empty: 0, distance: 512, magnitude: 90, phase: 100 }; 16];
+    targets[0] = Target { number: 15, empty: 0, distance: 65_535, magnitude: 254, phase: -32_768 };
+    targets[1] = Target { number: 0, empty: 0, distance: 0, magnitude: 34, phase: -1 };
     targets[15] = last;
     TargetFrame { refusal: 0, format, gain, targets }
 }
 
 /// A last block at distance 1234 in hex.
 fn last(number: u8, magnitude: u8, phase: i16) -> Target {
-    Target { number, distance: 0x1234, magnitude, phase }
+    Target { number, empty: 0, distance: 0x1234, magnitude, phase }
 }
 
 fn targets_case(fields: TargetFrame, start: &[u8], block: &[u8]) {
@@ -161,6 +161,148 @@ fn targets_refused() {
             assert_written(room, Err(50), |subject, output| subject.write_targets(output, fields));
         }
     }
+}
+
+/// What is read of an empty block.
+const EMPTY: Target = Target { number: 0, empty: 1, distance: 0, magnitude: 0, phase: 0 };
+
+/// A target whose written block would be all `0`.
+const ALL_ZERO: Target = Target { number: 0, empty: 0, distance: 0, magnitude: 48, phase: 0 };
+
+/// A T frame with these blocks behind two targets, as bytes.
+fn frame_with(rest: &[[u8; 14]; 14]) -> Vec<u8> {
+    [b"!T5Z10200Z00640000", b"20400Z80000000".as_slice(), rest.as_flattened(), b"\r\n"].concat()
+}
+
+/// The same as fields.
+fn fields_with(rest: [Target; 14]) -> TargetFrame {
+    let mut targets = [EMPTY; 16];
+    targets[0] = Target { number: 1, empty: 0, distance: 512, magnitude: 90, phase: 100 };
+    targets[1] = Target { number: 2, empty: 0, distance: 1024, magnitude: 90, phase: -32_768 };
+    targets[2..].copy_from_slice(&rest);
+    TargetFrame { refusal: 0, format: 5, gain: 90, targets }
+}
+
+fn read_as(frame: &[u8], fields: TargetFrame) {
+    for subject in subjects() {
+        assert_eq!(subject.read_targets(frame), fields, "{frame:?}");
+    }
+}
+
+fn refused_targets(fields: TargetFrame, room: usize, refusal: u32) {
+    assert_written(room, Err(refusal), |subject, output| subject.write_targets(output, fields));
+}
+
+#[test]
+fn empty_blocks() {
+    let written = frame_with(&[[b'0'; 14]; 14]);
+    let fields = fields_with([EMPTY; 14]);
+    let mut mixed = [[0; 14]; 14];
+    mixed[..3].copy_from_slice(&[*b"0000000000\"zZ\xFE", [b'0'; 14], *b"0000000000\xFE\"00"]);
+    for rest in [[[b'0'; 14]; 14], [[0; 14]; 14], mixed] {
+        let frame = frame_with(&rest);
+        read_as(&frame, fields);
+        assert_one_frame(&frame, 1);
+    }
+    // Whichever form was read, this is what is written of it.
+    for room in [230, 232] {
+        assert_written(room, Ok(&written), |subject, output| subject.write_targets(output, fields));
+    }
+    refused_targets(fields, 229, 51);
+    let all = [b"!T5Z".as_slice(), &[0; 224], b"\r\n"].concat();
+    let fields = TargetFrame { targets: [EMPTY; 16], ..fields };
+    read_as(&all, fields);
+    let written = [b"!T5Z".as_slice(), &[b'0'; 224], b"\r\n"].concat();
+    assert_written(230, Ok(&written), |subject, output| subject.write_targets(output, fields));
+}
+
+/// Each of the ten bytes makes a target if it is another digit or character, and so does a target behind empty blocks.
+#[test]
+fn blocks_that_are_not_quite_empty() {
+    let targets = [
+        (b"10000000000000", Target { number: 1, ..ALL_ZERO }),
+        (b"01000000000000", Target { distance: 0x1000, ..ALL_ZERO }),
+        (b"00100000000000", Target { distance: 0x0100, ..ALL_ZERO }),
+        (b"00010000000000", Target { distance: 0x0010, ..ALL_ZERO }),
+        (b"00001000000000", Target { distance: 1, ..ALL_ZERO }),
+        (b"00000/00000000", Target { magnitude: 47, ..ALL_ZERO }),
+        (b"00000100000000", Target { magnitude: 49, ..ALL_ZERO }),
+        (b"00000080000000", Target { phase: -32_768, ..ALL_ZERO }),
+        (b"00000001000000", Target { phase: 0x0100, ..ALL_ZERO }),
+        (b"00000000100000", Target { phase: 0x0010, ..ALL_ZERO }),
+        (b"00000000010000", Target { phase: 1, ..ALL_ZERO }),
+    ];
+    for (bytes, target) in targets {
+        let (mut rest, mut fields) = ([[0; 14]; 14], [EMPTY; 14]);
+        (rest[13], fields[13]) = (*bytes, target);
+        read_as(&frame_with(&rest), fields_with(fields));
+        rest[..13].fill([b'0'; 14]);
+        assert_written(230, Ok(&frame_with(&rest)), |subject, output| {
+            subject.write_targets(output, fields_with(fields))
+        });
+    }
+}
+
+#[test]
+fn broken_empty_blocks() {
+    let refused = TargetFrame { refusal: 5, ..TargetFrame::default() };
+    for place in 0..14 {
+        for block in [[0; 14], [b'0'; 14]] {
+            let mut rest = [block; 14];
+            rest[6][place] = if block[0] == 0 { b'0' } else { 0 };
+            read_as(&frame_with(&rest), refused);
+        }
+    }
+}
+
+/// "An empty block carries no other value": whatever its fields hold, it is written as `0`.
+#[test]
+fn empty_blocks_with_other_fields() {
+    let others = [
+        EMPTY,
+        Target { empty: 1, ..ALL_ZERO },
+        Target { number: 3, empty: 1, distance: 77, magnitude: 90, phase: -5 },
+        Target { number: 16, ..EMPTY },
+        Target { number: 255, empty: 1, distance: 65_535, magnitude: 255, phase: -1 },
+        Target { magnitude: 33, ..EMPTY },
+    ];
+    for other in others {
+        assert_written(230, Ok(&frame_with(&[[b'0'; 14]; 14])), |subject, output| {
+            subject.write_targets(output, fields_with([other; 14]))
+        });
+        refused_targets(fields_with([other; 14]), 229, 51);
+    }
+}
+
+/// Every 50 of the whole frame goes before 54, and 54 before 51.
+#[test]
+fn refusals_of_empty_blocks() {
+    let with = |index: usize, target: Target, fields: TargetFrame| {
+        let mut targets = fields.targets;
+        targets[index] = target;
+        TargetFrame { targets, ..fields }
+    };
+    let fields = fields_with([EMPTY; 14]);
+    for room in [232, 230, 229, 0] {
+        for empty in [2, 3, 48, 128, 255] {
+            refused_targets(with(7, Target { empty, ..fields.targets[0] }, fields), room, 50);
+            refused_targets(with(7, Target { empty, ..EMPTY }, fields), room, 50);
+        }
+        for index in [0, 1, 2, 15] {
+            refused_targets(with(index, ALL_ZERO, fields), room, 54);
+        }
+        let all_zero = with(5, ALL_ZERO, fields);
+        refused_targets(TargetFrame { format: 16, ..all_zero }, room, 50);
+        refused_targets(TargetFrame { gain: 33, ..all_zero }, room, 50);
+        for index in [4, 6] {
+            refused_targets(with(index, Target { empty: 2, ..ALL_ZERO }, all_zero), room, 50);
+            refused_targets(with(index, Target { number: 16, ..ALL_ZERO }, all_zero), room, 50);
+            refused_targets(with(index, Target { magnitude: 0, ..ALL_ZERO }, all_zero), room, 50);
+            refused_targets(with(index, Target { number: 16, empty: 1, ..ALL_ZERO }, all_zero), room, 54);
+        }
+    }
+    // A target as if read from an empty block has no magnitude.
+    refused_targets(with(2, Target::default(), fields), 230, 50);
 }
 
 /// A U frame with max range 1234, ramp time 5678 and bandwidth 9ABC in hex.
@@ -243,10 +385,12 @@ fn damaged() {
     let targets = targets_of(0, 34, last(0, 34, 32_767));
     let mut frame_of_targets = [0; 230];
     assert_eq!(Reference.write_targets(&mut frame_of_targets, targets).refusal, 0);
-    let frames: [&[u8]; 5] = [
+    let frames: [&[u8]; 7] = [
         b"!R000000000000\r\n",
         b"!C000300000000\"\xFEZ\r\n",
         &frame_of_targets,
+        &frame_with(&[[b'0'; 14]; 14]),
+        &frame_with(&[[0; 14]; 14]),
         b"!U0\"0005123456789ABC0000\r\n",
         b"!EABCD\r\n",
     ];

@@ -1,5 +1,5 @@
-//! Judgements over grids: a SiRad frame of each kind cut anywhere and with every value of every byte; packets of both packet
-//! dialects at the limits of every total length, with all types, payload lengths and object counts, false starts, cut and
+//! Judgements over grids: a SiRad frame of each kind, of T also one of empty blocks of value 0, cut anywhere and with every
+//! value of every byte; packets of both packet dialects at the limits of every total length, with all types, payload lengths and object counts, false starts, cut and
 //! damaged.
 //!
 //! The counts of SiRad and mmWave were made with the judgements of tests/expected/judge_cases.py, those of vital signs by
@@ -55,28 +55,30 @@ impl Grid {
 
 // SiRad
 
-/// A frame with this front, zeros as all its other bytes; then the counts of its cuts and of its damages.
-const FRAMES: [(&str, usize, usize, Counts, Counts); 7] = [
-    ("!R0000", 16, 1, [1, 0, 16], [1778, 2318, 0]),
-    ("!P0001", 17, 1, [1, 0, 17], [1999, 2353, 0]),
-    ("!C00FF", 271, 1, [1, 0, 271], [58133, 11243, 0]),
-    ("!T5Z00", 230, 1, [1, 0, 230], [20225, 38655, 0]),
-    ("!U5Z00", 26, 1, [1, 0, 26], [561, 6095, 0]),
-    ("!E0001", 8, 1, [1, 0, 8], [68, 1980, 0]),
-    ("!PFFFF", 65551, 13103, [1, 0, 6], [1106, 430, 0]),
+/// A frame with this front, this byte as all its others; then the counts of its cuts and of its damages.
+const FRAMES: [(&str, u8, usize, usize, Counts, Counts); 9] = [
+    ("!R0000", b'0', 16, 1, [1, 0, 16], [1778, 2318, 0]),
+    ("!P0001", b'0', 17, 1, [1, 0, 17], [1999, 2353, 0]),
+    ("!C00FF", b'0', 271, 1, [1, 0, 271], [58133, 11243, 0]),
+    ("!T5Z00", b'0', 230, 1, [1, 0, 230], [20225, 38655, 0]),
+    ("!T5Z", 0, 230, 1, [1, 0, 230], [465, 58415, 0]),
+    ("!T5Z10200Z80000000", 0, 230, 1, [1, 0, 230], [1700, 57180, 0]),
+    ("!U5Z00", b'0', 26, 1, [1, 0, 26], [561, 6095, 0]),
+    ("!E0001", b'0', 8, 1, [1, 0, 8], [68, 1980, 0]),
+    ("!PFFFF", b'0', 65551, 13103, [1, 0, 6], [1106, 430, 0]),
 ];
 
-fn frame(front: &str, length: usize) -> Vec<u8> {
+fn frame(front: &str, other: u8, length: usize) -> Vec<u8> {
     let mut frame = front.as_bytes().to_vec();
-    frame.resize(length - 2, b'0');
+    frame.resize(length - 2, other);
     frame.extend_from_slice(b"\r\n");
     frame
 }
 
 #[test]
 fn frames_cut_anywhere() {
-    for (front, length, step, expected, _) in FRAMES {
-        let frame = frame(front, length);
+    for (front, other, length, step, expected, _) in FRAMES {
+        let frame = frame(front, other, length);
         let mut grid = Grid::of(SIRAD);
         for end in (0..length).step_by(step).chain([length]) {
             grid.judge(&frame[..end]);
@@ -87,8 +89,8 @@ fn frames_cut_anywhere() {
 
 #[test]
 fn frames_with_every_value_of_every_byte() {
-    for (front, length, step, _, expected) in FRAMES {
-        let mut frame = frame(front, length);
+    for (front, other, length, step, _, expected) in FRAMES {
+        let mut frame = frame(front, other, length);
         let mut grid = Grid::of(SIRAD);
         for place in (0..length).step_by(step) {
             let right = frame[place];
@@ -99,6 +101,33 @@ fn frames_with_every_value_of_every_byte() {
             frame[place] = right;
         }
         grid.assert(front, expected);
+    }
+}
+
+/// Every value of every byte of a T frame of `0` or of value 0, judged up to this byte: 12 or 13 by the byte's field, 17 in a
+/// block whose first byte is 0.
+#[test]
+fn blocks_up_to_every_value_of_every_byte() {
+    for (other, expected) in [(b'0', [0, 37_344, 20_000]), (0, [0, 56_864, 480])] {
+        let mut frame = frame("!T5Z", other, 230);
+        let mut grid = Grid::of(SIRAD);
+        for place in 4..228 {
+            let within = (place - 4) % 14;
+            let (field, digits) = (b"xxxxxcxxxxcccc"[within], b"0123456789ABCDEF");
+            for value in 0..=255 {
+                frame[place] = value;
+                grid.judge(&frame[..=place]);
+                let reason = match within {
+                    0 if value == 0 => 0,
+                    1.. if other == 0 => 17 * u32::from(value != 0),
+                    _ if field == b'x' => 12 * u32::from(!digits.contains(&value)),
+                    _ => 13 * u32::from(!(34..=254).contains(&value)),
+                };
+                assert_eq!(Reference.judge(SIRAD, &frame[..=place], 0).reason, reason, "{place} {value}");
+            }
+            frame[place] = other;
+        }
+        grid.assert("blocks", expected);
     }
 }
 

@@ -1,11 +1,12 @@
 //! The papers' own values: every line of paper 01's "Values at the edges", its listing and its traps; the sentences of
-//! paper 02 (i), one by one.
+//! paper 02 (i) and (ii), one by one.
 
 use radar_reference::judgement::{judge, Judgement, DIALECTS, MMWAVE, SIRAD, VITAL_SIGNS};
 use radar_reference::numbers::{accuracy_millimetres, decibels, millimetres, phase_hundredths};
 use radar_reference::packet_rules::MAGIC;
 use radar_reference::reading::{closed_reading, open_reading, Reading};
-use radar_reference::{listing, packet, sirad_fields};
+use radar_reference::sirad_fields::{self, read_targets, write_targets, Target, Targets};
+use radar_reference::{listing, packet};
 
 fn whole(kind: u32, length: usize) -> Result<Judgement, u32> {
     Ok(Judgement::Whole { kind, length })
@@ -322,4 +323,115 @@ fn one_byte_string_is_a_packet_of_both_dialects() {
         assert_eq!(reading, Ok(Reading { rows: 1, skipped: 0, next: 64, state: 2 }));
         assert_eq!(table, [0, 64, kind]);
     }
+}
+
+// Paper 02 (ii), sixteen ghosts per frame, sentence by sentence.
+
+/// A T frame with sixteen such blocks.
+fn t_frame(block: &[u8; 14]) -> Vec<u8> {
+    [b"!T5Z".as_slice(), &block.repeat(16), b"\r\n"].concat()
+}
+
+/// The blocks of a T frame.
+fn blocks(frame: &[u8]) -> [Target; 16] {
+    read_targets(frame).expect("a T frame").blocks
+}
+
+const EMPTY: Target = Target { number: 0, empty: 1, distance: 0, magnitude: 0, phase: 0 };
+
+/// The ghost: distance 0 and -126 dB.
+const GHOST: Target = Target { number: 0, empty: 0, distance: 0, magnitude: 48, phase: 0 };
+
+#[test]
+fn ten_characters_0_and_legal_reserved_bytes_are_an_empty_block() {
+    assert_eq!(decibels(b'0'.into()), Ok(-126));
+    for block in [b"00000000000000", b"0000000000zzzz", b"0000000000\"\xfe\"\xfe"] {
+        assert_eq!(judge(SIRAD, &t_frame(block), 0), whole(4, 230));
+        assert_eq!(blocks(&t_frame(block)), [EMPTY; 16]);
+    }
+    for block in [b"0000000000!000", b"0000000000000\xff", b"000000000000\r0"] {
+        assert_eq!(read_targets(&t_frame(block)), Err(5));
+    }
+    for place in 0..10 {
+        let mut block = [b'0'; 14];
+        block[place] = b'1';
+        assert!(blocks(&t_frame(&block)).iter().all(|block| block.empty == 0 && *block != GHOST), "{place}");
+    }
+}
+
+#[test]
+fn fourteen_bytes_of_value_0_are_an_empty_block() {
+    assert_eq!(judge(SIRAD, &t_frame(&[0; 14]), 0), whole(4, 230));
+    assert_eq!(blocks(&t_frame(&[0; 14])), [EMPTY; 16]);
+}
+
+#[test]
+fn a_first_byte_0_commits_the_other_thirteen() {
+    for place in 1..14 {
+        for byte in 1..=255 {
+            let mut block = [0; 14];
+            block[place] = byte;
+            let frame = t_frame(&block);
+            // "Reason 17 at a byte that breaks such a block."
+            assert_eq!(judge(SIRAD, &frame[..4 + place], 0), Ok(Judgement::Waiting));
+            assert_eq!(judge(SIRAD, &frame[..5 + place], 0), bad(17));
+            assert_eq!(judge(SIRAD, &frame, 0), bad(17));
+        }
+    }
+}
+
+#[test]
+fn reason_12_no_longer_for_a_first_byte_0() {
+    assert_eq!(judge(SIRAD, b"!T5Z\0", 0), Ok(Judgement::Waiting));
+    assert_eq!(judge(SIRAD, b"!T5Z\x01", 0), bad(12));
+    assert_eq!(judge(SIRAD, b"!T5Z ", 0), bad(12));
+    // Anywhere else a byte 0 has the reason that it had.
+    let reasons =
+        [(2, 12), (3, 13), (5, 12), (8, 12), (9, 13), (10, 12), (13, 12), (14, 13), (17, 13), (228, 14), (229, 14)];
+    for (place, reason) in reasons {
+        let mut frame = t_frame(b"10200Z80000000");
+        frame[place] = 0;
+        assert_eq!(judge(SIRAD, &frame[..=place], 0), bad(reason), "{place}");
+    }
+    for start in [b"!R\0", b"!U\0", b"!E\0"] {
+        assert_eq!(judge(SIRAD, start, 0), bad(12));
+    }
+}
+
+#[test]
+fn reading_says_which_blocks_are_empty() {
+    let mut frame = t_frame(&[0; 14]);
+    frame[18..32].copy_from_slice(b"F1234\"80000000");
+    frame[32..46].copy_from_slice(b"0000000000zzzz");
+    frame[214..228].copy_from_slice(b"00000100000000");
+    let mut expected = [EMPTY; 16];
+    expected[1] = Target { number: 15, empty: 0, distance: 0x1234, magnitude: 34, phase: -32_768 };
+    expected[15] = Target { magnitude: 49, ..GHOST };
+    assert_eq!(blocks(&frame), expected);
+}
+
+#[test]
+fn a_round_trip_turns_the_second_form_into_the_first() {
+    let mut output = [0; 230];
+    for block in [[0; 14], [b'0'; 14], *b"0000000000zzzz"] {
+        assert_eq!(write_targets(&read_targets(&t_frame(&block)).unwrap(), &mut output), Ok(230));
+        assert_eq!(output.as_slice(), t_frame(&[b'0'; 14]));
+    }
+    let target = t_frame(b"000010000000zz");
+    assert_eq!(write_targets(&read_targets(&target).unwrap(), &mut output), Ok(230));
+    assert_eq!(output.as_slice(), t_frame(b"00001000000000"));
+}
+
+#[test]
+fn refusal_54_after_50_and_before_51() {
+    let mut targets = Targets { format: 5, gain: 90, blocks: [EMPTY; 16] };
+    let write = |targets: &Targets, room: usize| write_targets(targets, &mut [0; 230][..room]);
+    assert_eq!((write(&targets, 230), write(&targets, 229)), (Ok(230), Err(51)));
+    targets.blocks[3] = GHOST;
+    assert_eq!((write(&targets, 230), write(&targets, 229)), (Err(54), Err(54)));
+    targets.blocks[15].empty = 2;
+    assert_eq!((write(&targets, 230), write(&targets, 229)), (Err(50), Err(50)));
+    targets.blocks[15].empty = 1;
+    targets.blocks[3].phase = 1;
+    assert_eq!((write(&targets, 230), write(&targets, 229)), (Ok(230), Err(51)));
 }

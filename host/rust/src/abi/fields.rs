@@ -82,12 +82,14 @@ pub struct DataFrame {
     pub size: u64,
 }
 
-/// `struct vq_target`.
+/// `struct vq_target`: `empty` is 1 for an empty block, whose other fields are 0, and 0 for a target; a host may hand over
+/// any number.
 #[repr(C)]
 #[derive(Clone, Copy, Debug, Default, PartialEq, Eq)]
 #[allow(missing_docs)]
 pub struct Target {
     pub number: u8,
+    pub empty: u8,
     pub distance: u16,
     pub magnitude: u8,
     pub phase: i16,
@@ -271,6 +273,7 @@ impl FieldSubject for Reference {
             gain: narrow(targets.gain),
             targets: targets.blocks.map(|block| Target {
                 number: narrow(block.number),
+                empty: narrow(block.empty),
                 distance: narrow(block.distance),
                 magnitude: narrow(block.magnitude),
                 phase: i16::try_from(block.phase).expect("a phase has 16 bits"),
@@ -306,6 +309,7 @@ impl FieldSubject for Reference {
     fn write_targets(&self, output: &mut [u8], frame: TargetFrame) -> Written {
         let blocks = frame.targets.map(|target| sirad_fields::Target {
             number: target.number.into(),
+            empty: target.empty.into(),
             distance: target.distance.into(),
             magnitude: target.magnitude.into(),
             phase: target.phase.into(),
@@ -345,7 +349,9 @@ mod tests {
         assert_eq!(size_of::<Point>(), 20);
         assert_eq!((size_of::<Command>(), offset_of!(Command, rd), offset_of!(Command, code)), (136, 4, 8));
         assert_eq!((size_of::<DataFrame>(), offset_of!(DataFrame, size)), (24, 16));
-        assert_eq!((size_of::<Target>(), offset_of!(Target, phase)), (8, 6));
+        assert_eq!((size_of::<Target>(), offset_of!(Target, number), offset_of!(Target, empty)), (8, 0, 1));
+        let behind = [offset_of!(Target, distance), offset_of!(Target, magnitude), offset_of!(Target, phase)];
+        assert_eq!(behind, [2, 4, 6]);
         assert_eq!((size_of::<TargetFrame>(), offset_of!(TargetFrame, targets)), (136, 6));
         assert_eq!((size_of::<StatusFrame>(), offset_of!(StatusFrame, accuracy)), (20, 6));
         assert_eq!((size_of::<ErrorFrame>(), offset_of!(ErrorFrame, flags)), (8, 4));

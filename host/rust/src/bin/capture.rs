@@ -3,13 +3,14 @@
 //! `capture DIALECT FAMILY SEED LENGTH`, with DIALECT `sirad`, `mmwave` or `vital-signs` and FAMILY `clean`, `noisy`, `cut`,
 //! `damaged` or `hostile`, writes at most LENGTH bytes. `capture points SEED PACKETS` writes mmWave packets of a few points
 //! each, with noise between them; `capture monitor SEED PACKETS` writes vital-signs packets as a monitor sends them, with
-//! noise, damaged ones and false starts. `capture example` writes the 25 bytes of paper 01's listing.
+//! noise, damaged ones and false starts; `capture targets SEED FRAMES` writes SiRad T frames of two targets and empty blocks
+//! of both forms, with noise and broken ones. `capture example` writes the 25 bytes of paper 01's listing.
 
 use std::env;
 use std::io::{self, Write};
 use std::process::ExitCode;
 
-use radar_reference::generate::{capture, dialect_named, monitor, points, Family, LISTING_EXAMPLE};
+use radar_reference::generate::{capture, dialect_named, monitor, points, targets, Family, LISTING_EXAMPLE};
 
 fn main() -> ExitCode {
     let arguments: Vec<String> = env::args().skip(1).collect();
@@ -17,6 +18,7 @@ fn main() -> ExitCode {
     let Some(bytes) = bytes_of(&arguments) else {
         eprintln!("usage: capture sirad|mmwave|vital-signs clean|noisy|cut|damaged|hostile SEED LENGTH");
         eprintln!("       capture points|monitor SEED PACKETS");
+        eprintln!("       capture targets SEED FRAMES");
         eprintln!("       capture example");
         return ExitCode::from(2);
     };
@@ -34,6 +36,7 @@ fn bytes_of(arguments: &[&str]) -> Option<Vec<u8>> {
         ["example"] => Some(LISTING_EXAMPLE.to_vec()),
         ["points", seed, packets] => Some(points(seed.parse().ok()?, packets.parse().ok()?)),
         ["monitor", seed, packets] => Some(monitor(seed.parse().ok()?, packets.parse().ok()?)),
+        ["targets", seed, frames] => Some(targets(seed.parse().ok()?, frames.parse().ok()?)),
         [dialect, family, seed, length] => {
             Some(capture(dialect_named(dialect)?, Family::named(family)?, seed.parse().ok()?, length.parse().ok()?))
         }

@@ -15,6 +15,7 @@ use crate::generate::{lent, mmwave, sirad, vital_signs};
 use crate::judgement::{MMWAVE, SIRAD, VITAL_SIGNS};
 use crate::reading::ROW;
 use crate::refusal::{Refusal, MAX_BYTES};
+use crate::sirad::BLOCK_LENGTH;
 
 /// The kinds that packets are read of.
 const PACKET_KINDS: [u32; 2] = [crate::mmwave::PACKET, crate::vital_signs::PACKET];
@@ -59,16 +60,30 @@ impl<'a> Run<'a> {
         Ok(answer)
     }
 
-    /// All four readers of SiRad fields.
+    /// All four readers of SiRad fields; what is read of a T frame is written again.
     fn check_frame(&mut self, frame: &[u8]) -> Result<(), Difference> {
         let data = self.check("read_data", frame, |subject| subject.read_data(frame), |answer| answer.refusal)?;
         if data.refusal == 0 {
             self.tally.count(format!("read_data, kind {}", data.kind));
         }
-        self.check("read_targets", frame, |subject| subject.read_targets(frame), |answer| answer.refusal)?;
+        self.check_targets(frame)?;
         self.check("read_status", frame, |subject| subject.read_status(frame), |answer| answer.refusal)?;
         self.check("read_error", frame, |subject| subject.read_error(frame), |answer| answer.refusal)?;
         Ok(())
+    }
+
+    fn check_targets(&mut self, frame: &[u8]) -> Result<(), Difference> {
+        let read = self.check("read_targets", frame, |subject| subject.read_targets(frame), |answer| answer.refusal)?;
+        if read.refusal != 0 {
+            return Ok(());
+        }
+        for (block, _) in frame[4..].chunks(BLOCK_LENGTH).zip(read.targets).filter(|(_, target)| target.empty == 1) {
+            let form = if block[0] == 0 { "of value 0" } else { "of `0`" };
+            self.tally.count(format!("read_targets, an empty block {form}"));
+        }
+        self.check_writer("write_targets again", &read, frame.len(), |subject, output| {
+            subject.write_targets(output, read)
+        })
     }
 
     /// The header, the records by index and by place, of each kind that packets are read of and of some other; the points.
@@ -393,7 +408,36 @@ fn no_character(random: &mut Random) -> u8 {
     random.pick(&[0, 10, 13, 32, 33, 255])
 }
 
-/// Values of a T frame, one of them without an encoding now and then.
+/// A target that would be written as `0` throughout.
+const EMPTY_TARGET: Target = Target { number: 0, empty: 0, distance: 0, magnitude: b'0', phase: 0 };
+
+/// A target, now and then one that has one field only that is not written as `0`.
+fn target(random: &mut Random) -> Target {
+    let target = Target {
+        number: random.below(16) as u8,
+        empty: 0,
+        distance: random.word() as u16,
+        magnitude: character(random),
+        phase: if random.once_in(4) { random.pick(&[-32_768, -1, 0, 1, 32_767]) } else { random.word() as i16 },
+    };
+    match random.below(32) {
+        0 => Target { number: target.number.max(1), ..EMPTY_TARGET },
+        1 => Target { distance: target.distance.max(1), ..EMPTY_TARGET },
+        2 => Target { magnitude: random.pick(&[34, 47, 49, 254]), ..EMPTY_TARGET },
+        3 => Target { phase: target.phase | 1, ..EMPTY_TARGET },
+        _ => target,
+    }
+}
+
+/// An empty block; whatever its other fields are counts for nothing.
+fn empty_block(random: &mut Random) -> Target {
+    let without_encoding = Target { number: 16, magnitude: no_character(random), ..Target::default() };
+    let any = target(random);
+    Target { empty: 1, ..random.pick(&[Target::default(), EMPTY_TARGET, without_encoding, any]) }
+}
+
+/// Values of a T frame, empty blocks among them: one without an encoding now and then, a target that would be written as `0`
+/// now and then.
 fn target_frame(random: &mut Random) -> TargetFrame {
     let mut frame = TargetFrame {
         refusal: random.below(3) as u32,
@@ -401,13 +445,12 @@ fn target_frame(random: &mut Random) -> TargetFrame {
         gain: character(random),
         ..TargetFrame::default()
     };
-    for target in &mut frame.targets {
-        *target = Target {
-            number: random.below(16) as u8,
-            distance: random.word() as u16,
-            magnitude: character(random),
-            phase: if random.once_in(4) { random.pick(&[-32_768, -1, 0, 1, 32_767]) } else { random.word() as i16 },
-        };
+    let quarters = random.pick(&[0, 1, 1, 4]);
+    for block in &mut frame.targets {
+        *block = if random.below(4) < quarters { empty_block(random) } else { target(random) };
+    }
+    if random.once_in(5) {
+        frame.targets[random.below(16)] = EMPTY_TARGET;
     }
     let index = random.below(16);
     match random.below(12) {
@@ -415,6 +458,7 @@ fn target_frame(random: &mut Random) -> TargetFrame {
         1 => frame.gain = no_character(random),
         2 => frame.targets[index].number = random.pick(&[16, 32, 255]),
         3 => frame.targets[index].magnitude = no_character(random),
+        4 => frame.targets[index].empty = random.pick(&[2, 3, 128, 254, 255]),
         _ => (),
     }
     frame

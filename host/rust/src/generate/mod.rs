@@ -221,6 +221,23 @@ pub fn monitor(seed: u64, packets: u32) -> Vec<u8> {
     bytes
 }
 
+/// So many T frames of two targets and fourteen empty blocks, which are of `0` and of value 0 by turns, with noise between
+/// them. In every sixth a `0` stands in a block of value 0.
+pub fn targets(seed: u64, frames: usize) -> Vec<u8> {
+    let mut random = Random::new(seed);
+    let mut bytes = Vec::new();
+    for index in 0..frames {
+        bytes.extend(noise(&mut random, SIRAD));
+        let mut frame = sirad::two_targets(&mut random, index);
+        if index % 6 == 5 {
+            // Behind the first byte of any block but the targets.
+            frame[4 + 14 * random.within(2, 15) + random.within(1, 13)] = b'0';
+        }
+        bytes.extend(frame);
+    }
+    bytes
+}
+
 fn point(random: &mut Random) -> [f32; 4] {
     let mut metres = |half_millimetres: usize| random.below(half_millimetres) as f32 / 2000.0;
     let (x, y, z, doppler) = (metres(24_000) - 6.0, metres(24_000), metres(8_000) - 2.0, metres(8_000) - 2.0);
@@ -291,6 +308,27 @@ mod tests {
             }
         }
         assert!(types.iter().all(|&count| count > 10), "{types:?}");
+    }
+
+    #[test]
+    fn empty_blocks_of_both_forms_are_made_and_broken() {
+        let mut random = Random::new(8);
+        let (mut targets, mut of_0, mut of_value_0, mut frames_of_value_0) = (0, 0, 0, 0);
+        for _ in 0..500 {
+            let frame = sirad::frame_of(&mut random, b'T', 230);
+            assert_eq!(judge(SIRAD, &frame, 0), Ok(Judgement::Whole { kind: 4, length: 230 }));
+            let forms = frame[4..228].chunks(14).map(|block| (block[0] == 0, block[..10] == [b'0'; 10]));
+            targets += forms.clone().filter(|&form| form == (false, false)).count();
+            of_0 += forms.clone().filter(|form| form.1).count();
+            of_value_0 += forms.filter(|form| form.0).count();
+            frames_of_value_0 += usize::from(frame[4..228] == [0; 224]);
+        }
+        assert!(targets > 1000 && of_0 > 1000 && of_value_0 > 1000, "{targets} {of_0} {of_value_0}");
+        assert!(frames_of_value_0 > 10, "{frames_of_value_0}");
+        let hostile = capture(SIRAD, Family::Hostile, 1, 100_000);
+        let reasons = (0..hostile.len()).map(|place| judge(SIRAD, &hostile, place));
+        let broken = reasons.filter(|&judgement| judgement == Ok(Judgement::Bad { reason: 17 })).count();
+        assert!(broken > 20, "{broken}");
     }
 
     #[test]

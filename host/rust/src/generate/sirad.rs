@@ -27,12 +27,7 @@ pub fn frame_of(random: &mut Random, identifier: u8, room: usize) -> Vec<u8> {
         b'T' => {
             hex(random, &mut bytes, 1);
             characters(random, &mut bytes, 1);
-            for _ in 0..16 {
-                hex(random, &mut bytes, 5);
-                characters(random, &mut bytes, 1);
-                hex(random, &mut bytes, 4);
-                reserved(random, &mut bytes, 4);
-            }
+            blocks(random, &mut bytes);
         }
         _ => {
             let size = data_size(random, room - 16);
@@ -42,6 +37,89 @@ pub fn frame_of(random: &mut Random, identifier: u8, room: usize) -> Vec<u8> {
         }
     }
     bytes.extend_from_slice(b"\r\n");
+    bytes
+}
+
+/// The form of a block.
+#[derive(Clone, Copy, PartialEq, Eq)]
+enum Block {
+    Target,
+    /// A target of which nine of the first ten bytes are `0`.
+    NearlyEmpty,
+    /// Ten `0` and four reserved bytes.
+    Zeros,
+    /// Fourteen bytes of value 0.
+    Value0,
+}
+
+/// Sixteen blocks: targets; a few of them and then empty blocks of one form; or any.
+fn blocks(random: &mut Random, bytes: &mut Vec<u8>) {
+    let rest = random.pick(&[None, Some(Block::Target), Some(Block::Zeros), Some(Block::Value0)]);
+    let targets = random.pick(&[0, 1, 2, 2, 5, 15]);
+    for index in 0..16 {
+        let any = random.pick(&[Block::Target, Block::NearlyEmpty, Block::Zeros, Block::Value0]);
+        block(random, bytes, rest.map_or(any, |rest| if index < targets { Block::Target } else { rest }));
+    }
+}
+
+fn block(random: &mut Random, bytes: &mut Vec<u8>, form: Block) {
+    let start = bytes.len();
+    match form {
+        Block::Target => {
+            hex(random, bytes, 5);
+            characters(random, bytes, 1);
+            hex(random, bytes, 4);
+        }
+        Block::NearlyEmpty | Block::Zeros => bytes.resize(start + 10, b'0'),
+        Block::Value0 => return bytes.resize(start + 14, 0),
+    }
+    if form == Block::NearlyEmpty {
+        let place = random.below(10);
+        bytes[start + place] = random.pick(if place == 5 { b"\"/1Z\xfe" } else { b"11289AF" });
+    }
+    reserved(random, bytes, 4);
+}
+
+/// A T frame as a board sends it: two targets that come closer from frame to frame, and fourteen empty blocks, of value 0 in
+/// every second frame and of `0` in the others.
+pub(super) fn two_targets(random: &mut Random, index: usize) -> Vec<u8> {
+    let mut bytes = b"!T1Z".to_vec();
+    for (number, first) in [(0, 1800), (1, 4300)] {
+        bytes.extend(format!("{number:X}{:04X}", first - 25 * index % 1000).into_bytes());
+        bytes.push(random.within(110, 140) as u8);
+        bytes.extend(format!("{:04X}0000", random.word() as u16).into_bytes());
+    }
+    let form = if index % 2 == 1 { Block::Value0 } else { Block::Zeros };
+    (2..16).for_each(|_| block(random, &mut bytes, form));
+    bytes.extend_from_slice(b"\r\n");
+    bytes
+}
+
+/// A T frame with one wrong byte: one that breaks a block of value 0, one that is no character in another block, or a byte 0
+/// outside the blocks.
+fn broken_targets(random: &mut Random) -> Vec<u8> {
+    let mut bytes = frame_of(random, b'T', 230);
+    if random.once_in(6) {
+        bytes[random.pick(&[2, 3, 228, 229])] = 0;
+        return bytes;
+    }
+    let form = random.pick(&[Block::Value0, Block::Value0, Block::Zeros, Block::Target]);
+    let mut other = Vec::new();
+    block(random, &mut other, form);
+    let any = random.within(1, 13);
+    let place = random.pick(&[1, 5, 9, 10, 13, any]);
+    if form == Block::Value0 {
+        other[place] = random.pick(b"00\x01\"!G\r\xfe\xff");
+        if random.once_in(3) {
+            // From here on it could be a block of `0`.
+            other[place..].fill(b'0');
+        }
+    } else {
+        other[place] = random.pick(b"\0\0\0\0 !\xff");
+    }
+    let any = random.below(16);
+    let index = random.pick(&[0, 0, 0, 1, any, 15]);
+    bytes[4 + 14 * index..][..14].copy_from_slice(&other);
     bytes
 }
 
@@ -82,15 +160,16 @@ pub(super) fn hostile(random: &mut Random, room: usize) -> Vec<u8> {
     let Some(mut bytes) = frame(random, room.min(600)) else {
         return vec![random.pick(b"! E0\r\n\""); room];
     };
-    match random.below(14) {
+    match random.below(17) {
         // A true frame.
         0 | 1 => (),
         // Start markers everywhere.
         2 => bytes = vec![b'!'; random.within(1, 12)],
         // Starts of frames everywhere.
         3 => {
-            let start: &[u8] = random.pick(&[b"!R", b"!E", b"!T", b"!E0", b"!R0000", b"!U5Z", b"!RFFFF00000000"]);
-            bytes = start.repeat(random.within(1, 6));
+            let starts: [&[u8]; 9] =
+                [b"!R", b"!E", b"!T", b"!E0", b"!R0000", b"!U5Z", b"!RFFFF00000000", b"!T5Z\0", b"!T5Z0000000000"];
+            bytes = random.pick(&starts).repeat(random.within(1, 6));
         }
         // A frame that breaks off.
         4 => bytes.truncate(random.within(1, bytes.len() - 1)),
@@ -134,6 +213,9 @@ pub(super) fn hostile(random: &mut Random, room: usize) -> Vec<u8> {
                 random.pick(&[b"!UZ\r\n", b"!E\r\n", b"!S01003C02\r\n", b"!M\r\n", b"!V0000\r\n", b"!I00"]);
             bytes = other.to_vec();
         }
+        // A T frame, true or with a wrong byte.
+        14 => bytes = frame_of(random, b'T', 230),
+        15 | 16 => bytes = broken_targets(random),
         // The greatest size, with all its data or one character short.
         _ => {
             if room >= 65_551 && random.once_in(20) {

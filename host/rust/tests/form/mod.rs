@@ -1,4 +1,5 @@
-//! The paper's definitions taken at their word, as a second reader of short bytes (paper 01, "Judging a place").
+//! The papers' definitions taken at their word, as a second reader of short bytes (paper 01, "Judging a place"; paper 02 (i)
+//! and (ii)).
 //!
 //! "A frame of a dialect is a sequence of bytes that, from its first to its last, has the form which the rules on the
 //! wires give. .. It stands at a place if the bytes from there begin with it. Further bytes complete a frame at a place if
@@ -104,11 +105,12 @@ impl Form {
     fn sirad_reason(&self, bytes: &[u8]) -> u32 {
         let place = bytes.len() - 1;
         let (identifier, length) = sirad_to_be(&bytes[..place]).expect("the byte is the first that fails");
-        match class(identifier, length, place) {
+        match class(bytes, identifier, length, place) {
             Class::Only(b'!') => 10,
             Class::Identifier => 11,
-            Class::Hex => 12,
+            Class::Hex | Class::BlockStart => 12,
             Class::Character => 13,
+            Class::Only(0) => 17,
             Class::Only(_) => 14,
         }
     }
@@ -297,6 +299,8 @@ enum Class {
     Identifier,
     Hex,
     Character,
+    /// A hex digit, or the byte 0 that commits the rest of its block.
+    BlockStart,
 }
 
 impl Class {
@@ -306,16 +310,18 @@ impl Class {
             Class::Identifier => b"RPCTUE".contains(&byte),
             Class::Hex => b"0123456789ABCDEF".contains(&byte),
             Class::Character => byte > 33 && byte < 255,
+            Class::BlockStart => byte == 0 || Class::Hex.holds(byte),
         }
     }
 }
 
-/// The class of the byte at a place of a frame with this identifier and total length.
-fn class(identifier: u8, length: usize, place: usize) -> Class {
+/// The class of the byte at a place of a frame with this identifier and total length; in a block of a T frame by the bytes
+/// before it.
+fn class(bytes: &[u8], identifier: u8, length: usize, place: usize) -> Class {
     let body: &[u8] = match identifier {
         b'R' | b'P' | b'C' => b"xxxx",
         b'T' if place < 4 => b"xc",
-        b'T' => return block_class((place - 4) % 14, length, place),
+        b'T' => return block_class(bytes, (place - 4) % 14, length, place),
         b'U' => b"xcxxxxxxxxxxxxxxxxxxxx",
         _ => b"xxxx",
     };
@@ -329,10 +335,12 @@ fn class(identifier: u8, length: usize, place: usize) -> Class {
     }
 }
 
-fn block_class(within: usize, length: usize, place: usize) -> Class {
+fn block_class(bytes: &[u8], within: usize, length: usize, place: usize) -> Class {
     match length - place {
         2 => Class::Only(13),
         1 => Class::Only(10),
+        _ if within == 0 => Class::BlockStart,
+        _ if bytes[place - within] == 0 => Class::Only(0),
         _ if b"xxxxxcxxxxcccc"[within] == b'x' => Class::Hex,
         _ => Class::Character,
     }
@@ -357,7 +365,7 @@ fn sirad_kind(bytes: &[u8]) -> Option<u32> {
     if b"RPC".contains(&identifier) && bytes[2..6] != *format!("{:04X}", bytes.len() - 16).as_bytes() {
         return None;
     }
-    let holds = bytes.iter().enumerate().all(|(place, &byte)| class(identifier, bytes.len(), place).holds(byte));
+    let holds = bytes.iter().enumerate().all(|(place, &byte)| class(bytes, identifier, bytes.len(), place).holds(byte));
     let kind = 1 + b"RPCTUE".iter().position(|&known| known == identifier)? as u32;
     holds.then_some(kind)
 }
@@ -378,7 +386,7 @@ fn sirad_to_be(bytes: &[u8]) -> Option<(u8, usize)> {
         };
         let holds = bytes.len() < length
             && bytes.get(1).is_none_or(|&byte| byte == identifier)
-            && bytes.iter().enumerate().all(|(place, &byte)| class(identifier, length, place).holds(byte));
+            && bytes.iter().enumerate().all(|(place, &byte)| class(bytes, identifier, length, place).holds(byte));
         holds.then_some((identifier, length))
     })
 }
@@ -387,9 +395,11 @@ fn sirad_completed(bytes: &[u8]) -> Option<Vec<u8>> {
     let (identifier, length) = sirad_to_be(bytes)?;
     let mut frame = bytes.to_vec();
     for place in bytes.len()..length {
-        frame.push(match class(identifier, length, place) {
+        frame.push(match class(&frame, identifier, length, place) {
             Class::Only(only) => only,
             Class::Identifier => identifier,
+            // Empty blocks of both forms by turns.
+            Class::BlockStart => [0, b'0'][(place / 14 + bytes.len()) % 2],
             Class::Hex => b'0',
             Class::Character => 34 + (place % 221) as u8,
         });
