@@ -30,10 +30,46 @@ static void data(const char *what, const uint8_t *frame, size_t count)
 static void targets(const char *what, const uint8_t *frame, size_t count)
 {
     struct vq_target_frame f = vq_read_targets(frame, count);
+    int empty = 0;
     printf("targets %s: %" PRIu32 " %u %u", what, f.refusal, f.format, f.gain);
-    for (int i = 0; i < 16; i += 15)
-        printf(" | %u %u %u %d", f.targets[i].number, f.targets[i].distance, f.targets[i].magnitude, f.targets[i].phase);
-    putchar('\n');
+    for (int i = 0; i < 16; i++) {
+        struct vq_target t = f.targets[i];
+        empty += t.empty;
+        if (i % 15 == 0)
+            printf(" | %u %u %u %u %d", t.number, t.empty, t.distance, t.magnitude, t.phase);
+    }
+    printf(" | %d empty\n", empty);
+}
+
+/* Two targets, and fourteen empty blocks: of `0` and of value 0 by turns, the last of them with reserved bytes of its own. */
+static void empty_blocks(void)
+{
+    static const char two[] = "!T5Z10200Z00640000" "20400Z80000000", last[] = "0000000000\"zZ\xFE\r\n";
+    uint8_t frame[230] = {0};
+    memcpy(frame, two, 32);
+    memcpy(frame + 214, last, 16);
+    for (int i = 3; i < 15; i += 2)
+        memset(frame + 4 + 14 * i, '0', 14);
+
+    targets("with empty blocks", frame, sizeof frame);
+    struct vq_target_frame f = vq_read_targets(frame, sizeof frame);
+    struct vq_written w = vq_write_targets(output, sizeof output, f);
+    targets("written again", output, 230);
+    written("write targets with empty blocks", w, 61);
+    f.targets[2] = (struct vq_target){.number = 16, .empty = 1, .distance = 7, .magnitude = 33, .phase = -7};
+    written("write targets, other fields of an empty block", vq_write_targets(output, sizeof output, f), 61);
+    f.targets[2] = (struct vq_target){.magnitude = '0'};
+    written("write targets, one all 0", vq_write_targets(output, sizeof output, f), 20);
+    written("write targets, one all 0, room for 229", vq_write_targets(output, 229, f), 20);
+    f.targets[15].empty = 2;
+    written("write targets, one all 0, empty 2", vq_write_targets(output, sizeof output, f), 20);
+    f.targets[2] = (struct vq_target){.magnitude = '1'};
+    f.targets[15].empty = 255;
+    written("write targets, empty 255, room for 229", vq_write_targets(output, 229, f), 20);
+    f.targets[15].empty = 1;
+    written("write targets, one not quite all 0", vq_write_targets(output, sizeof output, f), 61);
+    frame[45] = '0';
+    targets("with a broken block", frame, sizeof frame);
 }
 
 static void status(const char *what, const uint8_t *frame, size_t count)
@@ -51,7 +87,7 @@ static void error(const char *what, const uint8_t *frame, size_t count)
 static void sirad(void)
 {
     uint8_t frame[230];
-    struct vq_target_frame f = {9, 15, 254, {{0, 0, 0, 0}}};
+    struct vq_target_frame f = {.refusal = 9, .format = 15, .gain = 254};
 
     data("of kind 1", TEXT("!R000100000000Z\r\n"));
     data("of kind 6", TEXT("!E0000\r\n"));
@@ -61,7 +97,7 @@ static void sirad(void)
     written("write data of kind 4", vq_write_data(output, 20, 4, TEXT("Z ")), 20);
 
     for (int i = 0; i < 16; i++)
-        f.targets[i] = (struct vq_target){(uint8_t)(15 - i), (uint16_t)(4369 * i), (uint8_t)(34 + 14 * i), (int16_t)(4369 * i - 32768)};
+        f.targets[i] = (struct vq_target){(uint8_t)(15 - i), 0, (uint16_t)(4369 * i), (uint8_t)(34 + 14 * i), (int16_t)(4369 * i - 32768)};
     struct vq_written w = vq_write_targets(output, sizeof output, f);
     memcpy(frame, output, sizeof frame);
     written("write targets", w, 20);
@@ -70,6 +106,7 @@ static void sirad(void)
     written("write targets, room for 229", vq_write_targets(output, 229, f), 20);
     f.targets[15].number = 16;
     written("write targets, number 16", vq_write_targets(output, 229, f), 20);
+    empty_blocks();
 
     status("of kind 5", TEXT("!U5Z0205FFFF00000A0B0001\r\n"));
     status("of kind 6", TEXT("!E0000\r\n"));

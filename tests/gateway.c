@@ -85,6 +85,31 @@ static void vital_signs(void)
     }
 }
 
+/* A T frame, its blocks all of value 0 or all of `0`, with another byte at a place: judged whole and up to that byte. */
+static void empty_blocks(void)
+{
+    static const struct {
+        size_t place;
+        uint8_t byte;
+    } cases[] = {{4, 0},   {4, '0'}, {4, 1},  {5, 0},   {5, '0'}, {9, 0}, {14, 0}, {14, '"'}, {17, 0},
+                 {17, '0'}, {18, 0},  {32, 0}, {227, 0}, {2, 0},   {3, 0}, {228, 0}, {229, 0}};
+    for (int form = 0; form < 2; form++)
+        for (size_t i = 0; i < sizeof cases / sizeof cases[0]; i++) {
+            const size_t place = cases[i].place;
+            char what[60];
+            uint8_t frame[230] = "!T5Z";
+            memset(frame + 4, form == 0 ? 0 : '0', 224);
+            frame[228] = '\r';
+            frame[229] = '\n';
+            frame[place] = cases[i].byte;
+            snprintf(what, sizeof what, "blocks of %s, %d at %zu", form == 0 ? "value 0" : "`0`", cases[i].byte, place);
+            judge(what, VQ_SIRAD, frame, 230, 0);
+            judge("up to there", VQ_SIRAD, frame, place + 1, 0);
+            if (i == 0)
+                read_both(what, VQ_SIRAD, frame, 230, 12);
+        }
+}
+
 int main(void)
 {
     static const char capture[] = "!E0000\r\n !E00G0\r\n!E0001\r\n!E00";
@@ -123,5 +148,6 @@ int main(void)
     read_both("too many bytes", 0, large, sizeof large, 12);
     read_both("too many bytes of vital signs", 2, large, sizeof large, 12);
     vital_signs();
+    empty_blocks();
     return 0;
 }

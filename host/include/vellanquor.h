@@ -43,7 +43,7 @@ extern "C" {
 #define VQ_KIND_RANGE 1u        /* SiRad R: magnitudes, 16 bytes and one for each data character */
 #define VQ_KIND_PHASE 2u        /* SiRad P: phases, likewise */
 #define VQ_KIND_CFAR 3u         /* SiRad C: CFAR output, likewise */
-#define VQ_KIND_TARGETS 4u      /* SiRad T: sixteen targets, 230 bytes */
+#define VQ_KIND_TARGETS 4u      /* SiRad T: sixteen blocks, each a target or empty, 230 bytes */
 #define VQ_KIND_STATUS 5u       /* SiRad U: status update, 26 bytes */
 #define VQ_KIND_ERROR 6u        /* SiRad E: error flags, 8 bytes */
 #define VQ_KIND_PACKET 16u      /* mmWave packet, a multiple of 32 from 64 to 32768 bytes */
@@ -60,6 +60,7 @@ extern "C" {
 #define VQ_BAD_HEX 12u        /* not an upper-case hex digit */
 #define VQ_BAD_CHARACTER 13u  /* not a character, a byte 34 to 254 */
 #define VQ_BAD_STOP 14u       /* wrong stop marker */
+#define VQ_BAD_EMPTY 17u      /* a byte other than 0 in a block whose first byte is 0 */
 
 /* Reasons of a bad mmWave or vital-signs place: the first field that fails. */
 #define VQ_BAD_MAGIC 20u  /* not the magic */
@@ -94,13 +95,14 @@ extern "C" {
 #define VQ_REFUSED_OUTPUT 51u    /* the output is too short */
 #define VQ_REFUSED_DATA 52u      /* over 65,535 data characters */
 #define VQ_REFUSED_KIND 53u      /* a kind that has no data frame */
+#define VQ_REFUSED_EMPTY_TARGET 54u /* a target whose written block would be all `0`, which is an empty block */
 
 /*
  * The judgement on the bytes from `offset` on.
  *   refusal  0, or 1, 3, 2: the first of them in this order that applies
  *   state    VQ_WHOLE, VQ_BAD or VQ_WAITING; 0 with a refusal
  *   kind     of the frame, if whole; else 0
- *   reason   10 to 14, 20 to 24 or 26, if bad; else 0
+ *   reason   10 to 14, 17, 20 to 24 or 26, if bad; else 0
  *   length   of the frame, if whole; else 0
  * More bytes behind these never change a whole or a bad judgement. The place at the very end waits.
  */
@@ -183,12 +185,19 @@ struct vq_data_frame vq_read_data(const uint8_t *frame, size_t count);
 struct vq_written vq_write_data(uint8_t *output, size_t room, uint32_t kind, const uint8_t *content, size_t count);
 
 /*
- * A T frame, 230 bytes: all sixteen blocks are targets, in wire order. Gain and magnitude are characters (34 to 254),
- * format and number 0 to 15. Writing ignores the refusal, so a frame that was read can be written as it is.
- *   refusal  0, or 5; in writing 0, or 50, 51
+ * A T frame, 230 bytes: sixteen blocks in wire order, each a target or empty. Gain and magnitude are characters (34 to
+ * 254), format and number 0 to 15. A block is empty if its first ten bytes are `0`, or all fourteen bytes have value 0:
+ * look at `empty` first. Writing ignores the refusal, so a frame that was read can be written as it is; empty blocks of
+ * either form are written as fourteen `0`.
+ *   refusal  0, or 5; in writing 0, or 50, 54, 51: the first of them in this order that applies to the frame
+ *   empty    1 for an empty block, whose other fields are 0 in reading and ignored in writing; 0 for a target; in writing
+ *            any other number is refused with 50
+ * A target with number 0, distance 0, magnitude 48 (`0`) and phase 0 would be read as an empty block: writing refuses it
+ * with 54.
  */
 struct vq_target {
     uint8_t number;
+    uint8_t empty;
     uint16_t distance;
     uint8_t magnitude;
     int16_t phase;
