@@ -8,7 +8,9 @@ use crate::SIZES;
 const COLOURS: [&str; 5] = ["#0b4f9c", "#d9730d", "#2e8b57", "#8a4fb0", "#888888"];
 const ROW: f64 = 24.0;
 const TOP: f64 = 70.0;
-const LEFT: f64 = 190.0;
+/// Room for a workload's name.
+const NAMES: f64 = 230.0;
+const LEFT: f64 = NAMES;
 const WIDTH: f64 = 420.0;
 const SECOND: f64 = LEFT + WIDTH + 90.0;
 const GROWTH: f64 = 220.0;
@@ -36,7 +38,7 @@ pub fn draw(counts: &Counts) -> String {
     let mut svg = format!(
         "<svg xmlns=\"http://www.w3.org/2000/svg\" width=\"{:.0}\" height=\"{height:.0}\" \
          font-family=\"sans-serif\" font-size=\"12\">\n<rect width=\"100%\" height=\"100%\" fill=\"white\"/>\n",
-        SECOND + GROWTH + 190.0
+        SECOND + GROWTH + NAMES
     );
     peers(&mut svg, counts, height - 50.0);
     growth(&mut svg, counts, height - 50.0);

@@ -39,9 +39,11 @@ const fn read(name: &'static str, dialect: u32, make: fn(&mut Random, usize) -> 
 }
 
 /// All workloads, in the order of the tables.
-pub const WORKLOADS: [Workload; 23] = [
+pub const WORKLOADS: [Workload; 25] = [
     read("SiRad T, back to back", SIRAD, |random, size| repeat(size, || targets(random, DIGITS))),
     read("SiRad T, every digit 0", SIRAD, |random, size| repeat(size, || targets(random, b"0"))),
+    read("SiRad T, two targets, rest \"0\"", SIRAD, |random, size| repeat(size, || two_targets(random, [b'0'; 14]))),
+    read("SiRad T, two targets, rest value 0", SIRAD, |random, size| repeat(size, || two_targets(random, [0; 14]))),
     read("SiRad R, n = 512", SIRAD, |random, size| repeat(size, || range(random, 512))),
     read("SiRad E", SIRAD, |random, size| repeat(size, || error(random))),
     read("SiRad U", SIRAD, |random, size| repeat(size, || status(random))),
@@ -98,15 +100,26 @@ fn characters_into(random: &mut Random, bytes: &mut Vec<u8>, count: usize) {
 }
 
 fn targets(random: &mut Random, digits: &[u8]) -> Vec<u8> {
+    targets_before(random, digits, &[])
+}
+
+/// Two targets and fourteen such empty blocks.
+fn two_targets(random: &mut Random, empty: [u8; 14]) -> Vec<u8> {
+    targets_before(random, DIGITS, &[empty; 14])
+}
+
+/// A T frame with targets before these empty blocks, sixteen blocks in all.
+fn targets_before(random: &mut Random, digits: &[u8], empty: &[[u8; 14]]) -> Vec<u8> {
     let mut bytes = b"!T".to_vec();
     pick_into(random, &mut bytes, digits, 1);
     characters_into(random, &mut bytes, 1);
-    for _ in 0..16 {
+    for _ in empty.len()..16 {
         pick_into(random, &mut bytes, digits, 5);
         characters_into(random, &mut bytes, 1);
         pick_into(random, &mut bytes, digits, 4);
         bytes.extend(b"0000");
     }
+    bytes.extend(empty.as_flattened());
     bytes.extend(b"\r\n");
     bytes
 }
