@@ -9,6 +9,12 @@
 
 #define TEXT(s) (const uint8_t *)(s), sizeof(s) - 1
 
+/* `empty` stands where padding was: a target's size and its other offsets are what they were. */
+_Static_assert(sizeof(struct vq_target) == 8 && offsetof(struct vq_target, empty) == 1, "size of a target");
+_Static_assert(offsetof(struct vq_target, distance) == 2 && offsetof(struct vq_target, magnitude) == 4 &&
+                   offsetof(struct vq_target, phase) == 6 && offsetof(struct vq_target_frame, targets) == 6,
+               "offsets of a target");
+
 static uint8_t output[240];
 
 /* The writer's answer, and the output: `.` for each byte that stays 7. */

@@ -76,12 +76,12 @@ fn sirad_judgements_of_all_short_words() {
     each_word(b"!U", b"0Z \xff5", 5, &mut check);
     each_word(b"!U5Z0123456789ABCDEF0000", b"\r\n0", 3, &mut check);
     each_word(b"!T", b"0\"gZ", 8, &mut check);
-    each_word(b"!T5Z", b"\00\"g", 7, &mut check);
+    each_word(b"!T5Z", b"0\0\"g", 7, &mut check);
     each_word(b"!T5Z\0\0\0\0\0\0\0\0\0\0\0", b"\0\x010\"", 6, &mut check);
-    each_word(b"!T5Z000000", b"\00\" ", 8, &mut check);
+    each_word(b"!T5Z000000", b"0\0\" ", 8, &mut check);
     for block in [[0; 14], [b'0'; 14]] {
         let front = [b"!T5Z".as_slice(), &block.repeat(16)[..220]].concat();
-        each_word(&front, b"\00\r\n", 5, &mut check);
+        each_word(&front, b"0\0\r\n", 5, &mut check);
     }
     println!("{words} words");
 }

@@ -1,6 +1,6 @@
-//! Judgements over grids: a SiRad frame of each kind, of T also one of empty blocks of value 0, cut anywhere and with every
-//! value of every byte; packets of both packet dialects at the limits of every total length, with all types, payload lengths and object counts, false starts, cut and
-//! damaged.
+//! Judgements over grids: a SiRad frame of each kind, of T also with empty blocks of both forms, cut anywhere and with every
+//! value of every byte; packets of both packet dialects at the limits of every total length, with all types, payload lengths
+//! and object counts, false starts, cut and damaged.
 //!
 //! The counts of SiRad and mmWave were made with the judgements of tests/expected/judge_cases.py, those of vital signs by
 //! trying which records fill a packet; neither knows anything of this reader. The library is judged too if `VQ_LIB_DIR`

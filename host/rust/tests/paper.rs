@@ -344,7 +344,7 @@ const GHOST: Target = Target { number: 0, empty: 0, distance: 0, magnitude: 48, 
 
 #[test]
 fn ten_characters_0_and_legal_reserved_bytes_are_an_empty_block() {
-    assert_eq!(decibels(b'0'.into()), Ok(-126));
+    assert_eq!(decibels(b'0'), Ok(-126));
     for block in [b"00000000000000", b"0000000000zzzz", b"0000000000\"\xfe\"\xfe"] {
         assert_eq!(judge(SIRAD, &t_frame(block), 0), whole(4, 230));
         assert_eq!(blocks(&t_frame(block)), [EMPTY; 16]);
