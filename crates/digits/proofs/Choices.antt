@@ -1,6 +1,6 @@
 -- Laws of `cond` and `&&`, and the case distinctions that proofs about tests use.
 use mathlib.Core.Path.{_≡_, refl}
-use mathlib.Core.Bool.{Bool, true, false, cond, _&&_}
+use mathlib.Core.Bool.{Bool, true, false, cond, _&&_, _||_}
 use mathlib.Core.Logic.{_⊎_, inl, inr}
 use Prim.Native.Nat.{ℕ}
 use native.Mathlib.Omega.{arith}
@@ -46,6 +46,11 @@ and-both false b p q = p
 pub and-fails-right : (a b : Bool) → b ≡ false → (a && b) ≡ false
 and-fails-right true b p = p
 and-fails-right false b p = refl
+
+-- either of two tests is enough
+pub or-right : (a b : Bool) → b ≡ true → (a || b) ≡ true
+or-right true b h = refl
+or-right false b h = h
 
 -- -- Choices by a test
 

@@ -1,11 +1,12 @@
 -- Bytes of a list at an offset, and bounds on all numbers of a list.
-use mathlib.Core.Path.{_≡_}
+use mathlib.Core.Path.{_≡_, ap, _∙_}
 use mathlib.Core.List.{List, [], _∷_}
 use Prim.Native.Nat.{ℕ, zero, suc, _+_, _-_, _<_, _≤_}
+use native.Mathlib.Nat.{add-zero}
 use native.Mathlib.Numerals.{add-one}
 use native.Mathlib.Omega.{arith}
 use lib.ListN.{length, take, drop, getD, length-drop}
-use lib.Seq.{drop-cons, take-all}
+use lib.Seq.{drop-cons, getD-drop, take-all}
 use Rattle.digits.specs.Bytes.{Below}
 
 -- -- The bytes from an offset on
@@ -13,6 +14,10 @@ use Rattle.digits.specs.Bytes.{Below}
 -- the first byte from offset at on, then the rest
 pub drop-one : (s : List ℕ) (at : ℕ) → at < length s → drop at s ≡ getD s at 0 ∷ drop (at + 1) s
 drop-one s at h = rw add-one (drop-cons s at 0 h)
+
+-- that byte alone, whether it is there or not
+pub drop-first : (s : List ℕ) (at : ℕ) → getD (drop at s) 0 0 ≡ getD s at 0
+drop-first s at = getD-drop at s 0 0 ∙ ap (λ (x : ℕ). getD s x 0) (add-zero at)
 
 -- the part of a slice from an offset on
 pub part-drop : (s : List ℕ) (at : ℕ) → take (length s - at) (drop at s) ≡ drop at s

@@ -9,9 +9,10 @@ use native.Mathlib.Omega.{arith}
 use borrow.Author.Tests.{lt-ltb, le-ltb, le-leb, eq-eqb, ne-eqb}
 use lib.Dec.{eqb, leb}
 use lib.ListN.{length, getD, take, drop, replicate}
-use lib.Seq.{length-take-le, drop-drop, getD-drop}
+use lib.Seq.{length-take-le, drop-drop}
 use Rattle.digits.specs.Hex.{hexAt}
 use Rattle.digits.proofs.Choices.{test}
+use Rattle.digits.proofs.Lists.{drop-first}
 use Rattle.form.specs.declared.Judgement.the-variants.{Whole}
 use Rattle.form.specs.Form.{judge, Frame, Stands}
 use Rattle.form.proofs.Theorems.{judged-frame, judged-stands, frame-whole}
@@ -174,13 +175,12 @@ blocks-column : (all : List ℕ) (n q : ℕ) → n + q ≡ 16
 unfolding classes blocks
 blocks-column all zero q e = let d : q ≡ 16 = omega arith in rw d (stop-column all)
 blocks-column all (suc n) q e =
-    let first : getD (drop (4 + 14 * q) all) 0 0 ≡ getD all (4 + 14 * q) 0 = getD-drop (4 + 14 * q) all 0 0
-    ∙ ap (λ (x : ℕ). getD all x 0) (add-zero (4 + 14 * q)) in
     let next : 4 + 14 * q + 14 ≡ 4 + 14 * suc q = omega arith in
     let more : 14 * suc n + 2 ≡ 14 + (14 * n + 2) = omega arith in
     let rest : classes (blocks n) (drop 14 (drop (4 + 14 * q) all)) ≡ column (classAt 4 230 all) (4 + 14 * q + 14) (14 * n + 2) =
     rw (drop-drop 14 (4 + 14 * q) all, next) (blocks-column all n (suc q) (omega arith)) in
-    rw (first, rest, block-column all q (omega arith), more) (sym (column-append (classAt 4 230 all) (4 + 14 * q) 14 (14 * n + 2)))
+    rw (drop-first all (4 + 14 * q), rest, block-column all q (omega arith), more)
+    (sym (column-append (classAt 4 230 all) (4 + 14 * q) 14 (14 * n + 2)))
 
 targets-start : (all : List ℕ) → (Hex ≡ classAt 4 230 all 2) × (Char ≡ classAt 4 230 all 3)
 unfolding classAt

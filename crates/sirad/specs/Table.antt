@@ -1,4 +1,5 @@
--- Paper 01's table of the SiRad frames by byte number: identifier, class of every byte, total bytes.
+-- Paper 01's table of the SiRad frames by byte number: identifier, class of every byte, total bytes; and T frames block by block
+-- (paper 02, (ii)).
 use mathlib.Core.Bool.{true, false, cond}
 use mathlib.Core.Path.{_≡_}
 use mathlib.Core.Logic.{_⊎_}
@@ -54,11 +55,11 @@ pub record TableFrame (kind : ℕ) (bs : List ℕ) : Type 0 where
   pub named : getD bs 1 0 ≡ identifier kind
   pub each : (i : ℕ) → 2 ≤ i → i < length bs → accepts (classAt kind (length bs) bs i) (getD bs i 0) ≡ true
 
--- block q of a T frame is fourteen bytes of value 0
+-- block q of a T frame is fourteen bytes of value 0 (paper 02, (ii))
 abbrev pub ZeroBlock : List ℕ → ℕ → Type 0
 ZeroBlock bs q = (j : ℕ) → j < 14 → getD bs (4 + 14 * q + j) 0 ≡ 0
 
--- block q of a T frame is a target
+-- block q of a T frame is a target, by its classes (paper 01, "SiRad")
 abbrev pub TargetBlock : List ℕ → ℕ → Type 0
 TargetBlock bs q = (j : ℕ) → j < 14 → accepts (targetClass j) (getD bs (4 + 14 * q + j) 0) ≡ true
 

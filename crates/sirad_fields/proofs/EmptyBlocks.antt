@@ -1,18 +1,18 @@
 -- Which blocks of a T frame are read as empty: exactly those of fourteen bytes of value 0, and those with `0` in front of the reserved
 -- bytes.
 use mathlib.Core.Path.{_≡_, refl, sym, ap, _∙_}
-use mathlib.Core.Bool.{Bool, true, false, _||_}
+use mathlib.Core.Bool.{true, false}
 use mathlib.Core.List.{List, [], _∷_}
 use mathlib.Core.Logic.{_↔_, _⊎_, inl, inr}
 use Prim.Native.Nat.{ℕ, zero, suc, _+_, _*_, _<_, _≤_}
-use native.Mathlib.Nat.{add-zero}
 use native.Mathlib.Omega.{arith}
 use borrow.Author.Tests.{eqb-true, eq-eqb}
 use lib.Dec.{eqb}
 use lib.ListN.{length, drop, getD, length-drop}
 use lib.Seq.{drop-drop, getD-drop}
 use Rattle.digits.specs.Bytes.{isHex}
-use Rattle.digits.proofs.Choices.{test, and-left, and-right, and-both, both-ways}
+use Rattle.digits.proofs.Choices.{test, and-left, and-right, and-both, or-right, both-ways}
+use Rattle.digits.proofs.Lists.{drop-first}
 use Rattle.form.proofs.Theorems.{judged-frame}
 use Rattle.sirad.specs.Rows.{blocks}
 use Rattle.sirad.specs.Sirad.{sirad}
@@ -43,14 +43,7 @@ each-zeroed (suc n) (x ∷ xs) l h =
 
 -- -- One block
 
-or-right : (a b : Bool) → b ≡ true → (a || b) ≡ true
-or-right true b h = refl
-or-right false b h = h
-
 module _ (bs : List ℕ) (q : ℕ) (h : q < 16) (f : BlockFrame bs) where
-  first : getD (drop (4 + 14 * q) bs) 0 0 ≡ getD bs (4 + 14 * q) 0
-  first = getD-drop (4 + 14 * q) bs 0 0 ∙ ap (λ (x : ℕ). getD bs x 0) (add-zero (4 + 14 * q))
-
   -- a block whose first byte has value 0 is fourteen of them
   committed : getD bs (4 + 14 * q) 0 ≡ 0 → ZeroBlock bs q
   committed e = go (f .block q h)
@@ -69,7 +62,7 @@ module _ (bs : List ℕ) (q : ℕ) (h : q < 16) (f : BlockFrame bs) where
   empty-block e = test (eqb (getD (drop (4 + 14 * q) bs) 0 0) 0) zeros others
     where
       zeros : eqb (getD (drop (4 + 14 * q) bs) 0 0) 0 ≡ true → ZeroBlock bs q ⊎ VacantBlock bs q
-      zeros t = inl (committed (sym first ∙ eqb-true (getD (drop (4 + 14 * q) bs) 0 0) 0 t))
+      zeros t = inl (committed (sym (drop-first bs (4 + 14 * q)) ∙ eqb-true (getD (drop (4 + 14 * q) bs) 0 0) 0 t))
 
       others : eqb (getD (drop (4 + 14 * q) bs) 0 0) 0 ≡ false → ZeroBlock bs q ⊎ VacantBlock bs q
       others t = let z : zeroed 10 (drop (4 + 14 * q) bs) ≡ true = rw t at e in inr (vacant z)
@@ -78,7 +71,7 @@ module _ (bs : List ℕ) (q : ℕ) (h : q < 16) (f : BlockFrame bs) where
   block-empty (inl z) =
       let o : 4 + 14 * q + 0 ≡ 4 + 14 * q = omega arith in
       let e : getD bs (4 + 14 * q) 0 ≡ 0 = rw o at (z 0 (omega arith)) in
-      let t = eq-eqb (getD (drop (4 + 14 * q) bs) 0 0) 0 (first ∙ e) in
+      let t = eq-eqb (getD (drop (4 + 14 * q) bs) 0 0) 0 (drop-first bs (4 + 14 * q) ∙ e) in
       rw t
   block-empty (inr v) =
       let size = f .size in
