@@ -12,12 +12,12 @@ ghost use Rattle.sirad.specs.Sirad.{row, number, head, sized, kindOf, sirad};
 use form::Judgement;
 use sirad::ByteClass;
 use sirad::Kind;
-use sirad_pieces::NO_DIGIT;
-use sirad_pieces::NO_STOP;
+use sirad_bytes::NO_DIGIT;
+use sirad_bytes::NO_STOP;
+use sirad_bytes::byte_of;
+use sirad_bytes::fixed_at;
 use sirad_pieces::block_at;
-use sirad_pieces::byte_of;
 use sirad_pieces::chars;
-use sirad_pieces::fixed_at;
 use sirad_pieces::hexes;
 
 // The byte that starts every frame and stands nowhere else in one.

@@ -1,84 +1,24 @@
-// The pieces of a SiRad frame: single bytes, runs of bytes, and the blocks of a target list (paper 01, "SiRad"; paper 02, (ii)).
+// The pieces of a SiRad frame: runs of bytes, and the blocks of a target list (paper 01, "SiRad"; paper 02, (ii)).
 
 ghost use mathlib.Core.Path.{_≡_};
 ghost use mathlib.Core.Bool.{true};
 ghost use Prim.Native.Nat.{_+_, _≤_};
-ghost use lib.Dec.{eqb};
 ghost use lib.ListN.{length};
 ghost use Rattle.form.specs.Form.{judgeAt};
 ghost use Rattle.form.specs.Numbers.{Judges};
-ghost use Rattle.form.specs.Pieces.{one};
-ghost use Rattle.sirad.specs.Classes.{Hex, Char, accepts, reason};
+ghost use Rattle.sirad.specs.Classes.{Hex, Char};
 ghost use Rattle.sirad.specs.Rows.{behindNumber};
 ghost use Rattle.sirad.specs.Sirad.{lay, run, target, block};
 ghost use Rattle.sirad.specs.Internal.{classOf, StepOf};
 use form::Judgement;
 use sirad::ByteClass;
-
-// The reasons of these pieces (paper 01, "Judging a place"; paper 02, (ii)).
-pub const NO_DIGIT: u32 = 12;
-
-pub const NO_CHARACTER: u32 = 13;
-
-pub const NO_STOP: u32 = 14;
-
-pub const BROKEN_EMPTY: u32 = 17;
+use sirad_bytes::byte_of;
+use sirad_bytes::is_of;
 
 const BLOCK_BYTES: usize = 14;
 
 // Bytes that are tested together; any number from 1 on would do.
 const CHUNK: usize = 64;
-
-fn is_of(c: ByteClass, b: u8) -> bool
-    ensures { λ r. ⌜ r ≡ accepts (classOf c) b ⌝ }
-{
-    match c {
-        ByteClass::Hex => digits::is_hex(b),
-        ByteClass::Char => digits::is_character(b),
-        ByteClass::Zero => b == 0,
-    }
-}
-
-fn reason_of(c: ByteClass) -> u32
-    ensures { λ r. ⌜ r ≡ reason (classOf c) ⌝ }
-{
-    match c {
-        ByteClass::Hex => NO_DIGIT,
-        ByteClass::Char => NO_CHARACTER,
-        ByteClass::Zero => BROKEN_EMPTY,
-    }
-}
-
-pub fn byte_of(s: &[u8], at: usize, c: ByteClass) -> Judgement
-    ensures { λ r. ⌜ Judges (one (reason (classOf c)) (accepts (classOf c))) at (now (s .entry)) r ⌝ }
-{
-    if s.len() <= at {
-        return Judgement::Waiting; // the byte may still come
-    }
-    let b = s[at];
-    if is_of(c, b) {
-        let end = at + 1;
-        let v = b as u32;
-        return Judgement::Whole(v, end);
-    }
-    Judgement::Bad(reason_of(c))
-}
-
-// A byte that is fixed, and the reason of any other.
-pub fn fixed_at(s: &[u8], at: usize, fixed: u8, reason: u32) -> Judgement
-    ensures { λ r. ⌜ Judges (one reason (λ b. eqb b fixed)) at (now (s .entry)) r ⌝ }
-{
-    if s.len() <= at {
-        return Judgement::Waiting;
-    }
-    let b = s[at];
-    if b == fixed {
-        let end = at + 1;
-        let v = b as u32;
-        return Judgement::Whole(v, end);
-    }
-    Judgement::Bad(reason)
-}
 
 // n bytes of a class, one by one: finds the first that fails.
 fn span(s: &[u8], from: usize, n: usize, c: ByteClass) -> Judgement

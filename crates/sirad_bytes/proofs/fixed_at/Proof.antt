@@ -3,8 +3,8 @@ use borrow.Author.Needs.{needs}
 use borrow.Author.Tests.{eq-eqb, ne-eqb}
 use Rattle.form.proofs.PieceLaws.{judges}
 use Rattle.sirad.proofs.Runs.{one-ends, one-hit, one-miss}
-use Rattle.sirad_pieces.proofs.fixed_at.Statement.{statement}
-use Rattle.sirad_pieces.proofs.fixed_at.Tie as tie
+use Rattle.sirad_bytes.proofs.fixed_at.Statement.{statement}
+use Rattle.sirad_bytes.proofs.fixed_at.Tie as tie
 
 returns : tie.Need-returns
 returns c = judges (one-ends _ _ _ _ (c .if1 .taken))

@@ -1,7 +1,7 @@
 -- One arm for each class.
 use borrow.Author.Needs.{needs}
-use Rattle.sirad_pieces.proofs.reason_of.Statement.{statement}
-use Rattle.sirad_pieces.proofs.reason_of.Tie as tie
+use Rattle.sirad_bytes.proofs.reason_of.Statement.{statement}
+use Rattle.sirad_bytes.proofs.reason_of.Tie as tie
 
 enum-told : tie.Need-enum-told
 enum-told c = search needs

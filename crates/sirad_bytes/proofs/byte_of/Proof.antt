@@ -5,8 +5,8 @@ use mathlib.Core.Path.{sym, ap, _∙_}
 use native.Mathlib.Omega.{arith}
 use Rattle.form.specs.declared.Judgement.the-variants.{Bad}
 use Rattle.sirad.proofs.Runs.{one-ends, one-hit, one-miss}
-use Rattle.sirad_pieces.proofs.byte_of.Statement.{statement}
-use Rattle.sirad_pieces.proofs.byte_of.Tie as tie
+use Rattle.sirad_bytes.proofs.byte_of.Statement.{statement}
+use Rattle.sirad_bytes.proofs.byte_of.Tie as tie
 
 returns : tie.Need-returns
 returns c = judges (one-ends _ _ _ _ (c .if1 .taken))
