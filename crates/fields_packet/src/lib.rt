@@ -1,5 +1,5 @@
-// The C face of a packet's fields: the readers of `packet_fields` and `packet_points` under names for C, each with its own promise.
-// A slice is a pointer that is not null and a count; a struct crosses by value.
+// The C face of a packet's fields: the readers of `packet_header`, `packet_fields` and `packet_points` under names for C, each with its
+// own promise. A slice is a pointer that is not null and a count; a struct crosses by value.
 
 use packet::Cursor;
 use packet::PacketHeader;
@@ -14,7 +14,7 @@ ghost use Rattle.packet.specs.Fields.{headerOf, RecordShown, StepShown, pointOf
 pub extern "C" fn vq_header(kind: u32, packet: &[u8]) -> PacketHeader
     ensures { λ r. ⌜ r ≡ headerOf kind (now (packet .entry)) ⌝ }
 {
-    packet_fields::header(kind, packet)
+    packet_header::header(kind, packet)
 }
 
 // Record `index` of a packet of a kind: its type and the part of the slice that is its payload; 5, 6.

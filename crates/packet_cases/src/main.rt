@@ -40,7 +40,7 @@ fn print_points(found: PacketPoints) {
 }
 
 fn read_kind(kind: u32, s: &[u8]) {
-    let header = packet_fields::header(kind, s);
+    let header = packet_header::header(kind, s);
     let first = packet_reader::first_step(kind, s);
     io::write_all(STDOUT_FILENO, b"kind");
     field(kind as u64);

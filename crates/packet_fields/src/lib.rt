@@ -1,55 +1,22 @@
-// The header of one whole packet of the kind named, its records, and a cursor over them (paper 01, "Fields"; paper 02, (i)).
+// The records of one whole packet of the kind named, and a cursor over them (paper 01, "Fields"; paper 02, (i)).
 ghost use mathlib.Core.Path.{_≡_};
 ghost use Prim.Native.Nat.{suc, _≤_};
-ghost use Rattle.packet.specs.Walk.{recordsOf, lengthAt, endAt, recordAt, startsAmong};
-ghost use Rattle.packet.specs.Fields.{dialectNamed, noHeader, headerShown, headerOf};
+ghost use Rattle.packet.specs.Walk.{recordsOf, endAt, recordAt, startsAmong};
 ghost use Rattle.packet.specs.Fields.{noRecord, recordShown, recordRead, RecordShown, noStep, stepShown, stepRead, StepShown};
 ghost use Rattle.packet.specs.Internal.{Walkable};
 use form::Judgement;
 use mmwave::Header;
-use mmwave::PacketDialect;
-use mmwave_header::KIND;
-use mmwave_header::VITAL_KIND;
 use packet::Cursor;
 use packet::NamedKind;
-use packet::PacketHeader;
 use packet::PacketRecord;
 use packet::PacketStep;
-
-// Refusals (paper 01, "Refusal numbers").
-pub const NOT_ONE_PACKET: u32 = 5;
-
-pub const NO_SUCH_INDEX: u32 = 6;
-
-// A record's header: type and payload length.
-pub const RECORD_HEADER: usize = 8;
-
-const LENGTH_FIELD: usize = 4;
-
-// The dialect whose packets have this kind.
-fn dialect_named(kind: u32) -> NamedKind
-    ensures { λ r. ⌜ r ≡ dialectNamed kind ⌝ }
-{
-    if kind == KIND {
-        return NamedKind::Packets(PacketDialect::MmWave);
-    }
-    if kind == VITAL_KIND {
-        return NamedKind::Packets(PacketDialect::VitalSigns);
-    }
-    NamedKind::Other
-}
+use packet_header::NO_SUCH_INDEX;
+use packet_header::NOT_ONE_PACKET;
+use packet_header::RECORD_HEADER;
+use packet_header::dialect_named;
+use packet_header::payload_length;
 
 // -- The walk over the records
-
-// The payload length of the record at `p`; 0 where the bytes end before it.
-pub fn payload_length(s: &[u8], p: usize) -> u32
-    ensures { λ r. ⌜ r ≡ lengthAt (now (s .entry)) p ⌝ }
-{
-    if s.len() < p {
-        return 0;
-    }
-    numbers::word_at(s, p + LENGTH_FIELD)
-}
 
 // The offset right behind the record at `p`.
 fn behind(s: &[u8], p: usize) -> usize
@@ -84,63 +51,6 @@ fn starts(s: &[u8], p: usize, k: u32, at: usize) -> bool
     }
     let next = behind(s, p);
     starts(s, next, k - 1, at)
-}
-
-// -- The header
-
-fn no_header() -> PacketHeader
-    ensures { λ r. ⌜ r ≡ noHeader 5 ⌝ }
-{
-    let fields = Header {
-        version: 0,
-        total: 0,
-        platform: 0,
-        frame: 0,
-        time: 0,
-        objects: 0,
-        records: 0,
-        subframe: 0,
-    };
-    PacketHeader {
-        refusal: NOT_ONE_PACKET,
-        fields,
-    }
-}
-
-// The eight words at their offsets.
-fn read_header(s: &[u8]) -> PacketHeader
-    ensures { λ r. ⌜ r ≡ headerShown (now (s .entry)) ⌝ }
-{
-    let fields = Header {
-        version: numbers::word_at(s, Header::VERSION),
-        total: numbers::word_at(s, Header::TOTAL),
-        platform: numbers::word_at(s, Header::PLATFORM),
-        frame: numbers::word_at(s, Header::FRAME),
-        time: numbers::word_at(s, Header::TIME),
-        objects: numbers::word_at(s, Header::OBJECTS),
-        records: numbers::word_at(s, Header::RECORDS),
-        subframe: numbers::word_at(s, Header::SUBFRAME),
-    };
-    PacketHeader { refusal: 0, fields }
-}
-
-// The header's eight fields, or 5 if the slice is not exactly one whole packet of this kind, 16 or 17.
-pub fn header(kind: u32, packet: &[u8]) -> PacketHeader
-    ensures { λ r. ⌜ r ≡ headerOf kind (now (packet .entry)) ⌝ }
-{
-    let NamedKind::Packets(d) = dialect_named(kind) else {
-        return no_header();
-    };
-    let Judgement::Whole(found, length) = mmwave_judge::judge(packet, d) else {
-        return no_header();
-    };
-    if found != kind {
-        return no_header();
-    }
-    if length != packet.len() {
-        return no_header();
-    }
-    read_header(packet)
 }
 
 // -- Records

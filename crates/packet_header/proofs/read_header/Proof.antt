@@ -1,8 +1,8 @@
 -- `packet_fields::read_header` meets its contract: the eight words at their offsets.
 use Rattle.packet.proofs.FieldLaws.{header-words}
 use borrow.Author.Needs.{needs}
-use Rattle.packet_fields.proofs.read_header.Statement.{statement}
-use Rattle.packet_fields.proofs.read_header.Tie as tie
+use Rattle.packet_header.proofs.read_header.Statement.{statement}
+use Rattle.packet_header.proofs.read_header.Tie as tie
 
 word-at-requires : tie.Need-word-at-requires
 word-at-requires c κs = search needs

@@ -1,8 +1,8 @@
 -- `packet_fields::header` meets its contract: the eight words of one whole packet of the kind, or zeros with 5.
 use Rattle.packet.proofs.FieldLaws.{other-named, not-whole, other-kind, other-length, one-packet, header-refused, header-read}
 use borrow.Author.Needs.{needs}
-use Rattle.packet_fields.proofs.header.Statement.{statement}
-use Rattle.packet_fields.proofs.header.Tie as tie
+use Rattle.packet_header.proofs.header.Statement.{statement}
+use Rattle.packet_header.proofs.header.Tie as tie
 
 dialect-named-requires : tie.Need-dialect-named-requires
 dialect-named-requires c κs = search needs

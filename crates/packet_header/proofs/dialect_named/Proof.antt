@@ -1,7 +1,7 @@
 -- `packet_fields::dialect_named` meets its contract: one test for each kind.
 use Rattle.packet.proofs.FieldLaws.{named-16, named-17, named-other}
-use Rattle.packet_fields.proofs.dialect_named.Statement.{statement}
-use Rattle.packet_fields.proofs.dialect_named.Tie as tie
+use Rattle.packet_header.proofs.dialect_named.Statement.{statement}
+use Rattle.packet_header.proofs.dialect_named.Tie as tie
 
 returns : tie.Need-returns
 returns c = named-16 _ (c .if1 .taken)

@@ -3,8 +3,8 @@ use mathlib.Core.Path.{sym}
 use native.Mathlib.Omega.{arith}
 use Rattle.digits.proofs.LittleEndianLaws.{word-missing}
 use borrow.Author.Needs.{needs}
-use Rattle.packet_fields.proofs.payload_length.Statement.{statement}
-use Rattle.packet_fields.proofs.payload_length.Tie as tie
+use Rattle.packet_header.proofs.payload_length.Statement.{statement}
+use Rattle.packet_header.proofs.payload_length.Tie as tie
 
 returns : tie.Need-returns
 returns c = let a = c .before .before .args in sym (word-missing (a .s .now) _ (omega arith))
