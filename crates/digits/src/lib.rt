@@ -1,5 +1,5 @@
 // Classes of bytes, and single hex digits both ways. The definitions of numbers as bytes and of stores stand here too, with their laws;
-// `numbers` and `stores` have the code.
+// `hex_numbers`, `numbers` and `stores` have the code.
 
 ghost use mathlib.Core.Path.{_≡_};
 ghost use mathlib.Core.Bool.{_&&_, _||_};

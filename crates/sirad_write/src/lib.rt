@@ -84,7 +84,7 @@ fn put_data(out: &mut [u8], kind: u32, content: &[u8])
     let n = content.len();
     let id = identifier_of(kind);
     stores::put_pair(out, 0, sirad_judge::START_MARKER, id);
-    numbers::put_hex(out, 2, 4, n as u32);
+    hex_numbers::put_hex(out, 2, 4, n as u32);
     stores::put_run(out, 6, 8, b'0');
     stores::put_bytes(out, DATA_START, content);
     stores::put_pair(out, DATA_START + n, b'\r', b'\n');
@@ -138,11 +138,11 @@ fn put_status(
     let digit = digits::glyph_of(format as u32);
     stores::put_pair(out, 0, sirad_judge::START_MARKER, b'U');
     stores::put_pair(out, 2, digit, gain);
-    numbers::put_hex(out, 4, 4, accuracy as u32);
-    numbers::put_hex(out, 8, 4, range as u32);
-    numbers::put_hex(out, 12, 4, ramp as u32);
-    numbers::put_hex(out, 16, 4, bandwidth as u32);
-    numbers::put_hex(out, 20, 4, time as u32);
+    hex_numbers::put_hex(out, 4, 4, accuracy as u32);
+    hex_numbers::put_hex(out, 8, 4, range as u32);
+    hex_numbers::put_hex(out, 12, 4, ramp as u32);
+    hex_numbers::put_hex(out, 16, 4, bandwidth as u32);
+    hex_numbers::put_hex(out, 20, 4, time as u32);
     stores::put_pair(out, 24, b'\r', b'\n');
 }
 
@@ -180,7 +180,7 @@ fn put_error(out: &mut [u8], flags: u16)
     ensures { λ r. ⌜ now (out .exit) ≡ stored (now (out .entry)) 0 (errorBytes flags) ⌝ }
 {
     stores::put_pair(out, 0, sirad_judge::START_MARKER, b'E');
-    numbers::put_hex(out, 2, 4, flags as u32);
+    hex_numbers::put_hex(out, 2, 4, flags as u32);
     stores::put_pair(out, 6, b'\r', b'\n');
 }
 

@@ -4,8 +4,8 @@ use Prim.Native.Nat.{min}
 use native.Mathlib.Omega.{arith}
 use Rattle.digits.proofs.HexSteps.{hex-missing, hex-counted}
 use borrow.Author.Needs.{needs}
-use Rattle.numbers.proofs.hex_at.Statement.{statement}
-use Rattle.numbers.proofs.hex_at.Tie as tie
+use Rattle.hex_numbers.proofs.hex_at.Statement.{statement}
+use Rattle.hex_numbers.proofs.hex_at.Tie as tie
 
 returns : tie.Need-returns
 returns c = let a = c .before .before .args in sym (hex-missing (min (a .n) 8) (a .at) (a .s .now) (omega arith))

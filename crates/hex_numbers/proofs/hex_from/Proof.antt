@@ -8,8 +8,8 @@ use lib.ListN.{take, drop, getD}
 use Rattle.digits.specs.Hex.{hexFrom, hexAt}
 use Rattle.digits.proofs.HexLaws.{digit-small, hex-grows}
 use Rattle.digits.proofs.HexSteps.{hex-room, hex-start, hex-next, hex-end}
-use Rattle.numbers.proofs.hex_from.Statement.{statement}
-use Rattle.numbers.proofs.hex_from.Tie as tie
+use Rattle.hex_numbers.proofs.hex_from.Statement.{statement}
+use Rattle.hex_numbers.proofs.hex_from.Tie as tie
 
 abbrev Inv-loop : tie.InvT-loop
 Inv-loop s at n v₀ i₀ v i = (i ≤ n) × (v < 16 ^ i) × (hexFrom v (take (n - i) (drop (at + i) s)) ≡ hexAt n at s)
