@@ -27,7 +27,7 @@ pub extern "C" fn vq_read_data(frame: &[u8]) -> DataFrame
 pub extern "C" fn vq_read_targets(frame: &[u8]) -> TargetFrame
     ensures { λ r. ⌜ r ≡ readTargets (now (frame .entry)) ⌝ }
 {
-    sirad_read::read_targets(frame)
+    sirad_read_targets::read_targets(frame)
 }
 
 // The status of exactly one whole U frame; else 5.
