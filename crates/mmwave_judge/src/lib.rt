@@ -20,6 +20,8 @@ use mmwave_header::kind_of;
 use mmwave_header::objects_ok;
 use mmwave_header::subframe_ok;
 use mmwave_header::total_ok;
+use mmwave_lengths::length_ok;
+use mmwave_lengths::type_ok;
 use mmwave_pieces::BAD_COUNT;
 use mmwave_pieces::BAD_FIXED;
 use mmwave_pieces::BAD_LENGTH;
@@ -28,9 +30,7 @@ use mmwave_pieces::BAD_TYPE;
 use mmwave_pieces::NO_MAGIC;
 use mmwave_pieces::judge_pieces;
 use mmwave_pieces::walk;
-use mmwave_rules::length_ok;
 use mmwave_rules::rule_of;
-use mmwave_rules::type_ok;
 
 // The number in four bytes that are there.
 fn field(s: &[u8], at: usize) -> u32

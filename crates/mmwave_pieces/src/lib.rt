@@ -17,9 +17,9 @@ use mmwave_header::kind_of;
 use mmwave_header::objects_ok;
 use mmwave_header::subframe_ok;
 use mmwave_header::total_ok;
-use mmwave_rules::length_ok;
+use mmwave_lengths::length_ok;
+use mmwave_lengths::type_ok;
 use mmwave_rules::rule_of;
-use mmwave_rules::type_ok;
 
 // Reasons (paper 01, "Judging a place"; paper 02, (i)).
 pub const NO_MAGIC: u32 = 20;

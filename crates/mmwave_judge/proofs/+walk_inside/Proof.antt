@@ -16,7 +16,7 @@ use Rattle.mmwave_judge.proofs.dialect_of_kind.Reads as dialect-of-kind
 use Rattle.mmwave_judge.proofs.field.Reads as field-reads
 use Rattle.mmwave_judge.proofs.refusal_of.Reads as refusal-of-reads
 use Rattle.mmwave_rules.proofs.rule_of.Reads as rule-of-reads
-use Rattle.mmwave_rules.proofs.length_ok.Reads as length-ok-reads
+use Rattle.mmwave_lengths.proofs.length_ok.Reads as length-ok-reads
 use Rattle.mmwave_judge.proofs.+walk_inside.{statement}
 use Rattle.mmwave_judge.proofs.+walk_inside.Tie.{close}
 

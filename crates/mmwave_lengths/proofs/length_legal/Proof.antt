@@ -1,8 +1,8 @@
 -- One arm for each rule.
 use Rattle.mmwave.proofs.RuleLaws.{legal-never, legal-exact, legal-multiple, legal-free}
 use borrow.Author.Needs.{needs}
-use Rattle.mmwave_rules.proofs.length_legal.Statement.{statement}
-use Rattle.mmwave_rules.proofs.length_legal.Tie as tie
+use Rattle.mmwave_lengths.proofs.length_legal.Statement.{statement}
+use Rattle.mmwave_lengths.proofs.length_legal.Tie as tie
 
 enum-told : tie.Need-enum-told
 enum-told c = search needs

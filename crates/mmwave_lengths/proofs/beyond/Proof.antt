@@ -1,8 +1,8 @@
 -- The bits below the unit.
 use Rattle.mmwave.proofs.RuleLaws.{masked}
 use borrow.Author.Needs.{needs}
-use Rattle.mmwave_rules.proofs.beyond.Statement.{statement}
-use Rattle.mmwave_rules.proofs.beyond.Tie as tie
+use Rattle.mmwave_lengths.proofs.beyond.Statement.{statement}
+use Rattle.mmwave_lengths.proofs.beyond.Tie as tie
 
 low-bits-requires : tie.Need-low-bits-requires
 low-bits-requires c κs = search needs

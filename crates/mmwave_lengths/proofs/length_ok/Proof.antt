@@ -1,8 +1,8 @@
 -- The conjunction, test by test.
 use Rattle.mmwave.proofs.RecordLaws.{length-both, length-not}
 use borrow.Author.Needs.{needs}
-use Rattle.mmwave_rules.proofs.length_ok.Statement.{statement}
-use Rattle.mmwave_rules.proofs.length_ok.Tie as tie
+use Rattle.mmwave_lengths.proofs.length_ok.Statement.{statement}
+use Rattle.mmwave_lengths.proofs.length_ok.Tie as tie
 
 length-legal-requires : tie.Need-length-legal-requires
 length-legal-requires c κs = search needs

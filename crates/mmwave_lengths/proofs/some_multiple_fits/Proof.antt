@@ -1,8 +1,8 @@
 -- One test after another, as the definition has them.
 use Rattle.mmwave.proofs.RuleLaws.{multiple-more, multiple-last}
 use borrow.Author.Needs.{needs}
-use Rattle.mmwave_rules.proofs.some_multiple_fits.Statement.{statement}
-use Rattle.mmwave_rules.proofs.some_multiple_fits.Tie as tie
+use Rattle.mmwave_lengths.proofs.some_multiple_fits.Statement.{statement}
+use Rattle.mmwave_lengths.proofs.some_multiple_fits.Tie as tie
 
 returns : tie.Need-returns
 returns c = multiple-more _ _ _ _ (c .if1 .taken)

@@ -1,8 +1,8 @@
 -- One arm for each rule.
 use Rattle.mmwave.proofs.RuleLaws.{possible-never, possible-exact, possible-multiple, possible-free}
 use borrow.Author.Needs.{needs}
-use Rattle.mmwave_rules.proofs.some_length_fits.Statement.{statement}
-use Rattle.mmwave_rules.proofs.some_length_fits.Tie as tie
+use Rattle.mmwave_lengths.proofs.some_length_fits.Statement.{statement}
+use Rattle.mmwave_lengths.proofs.some_length_fits.Tie as tie
 
 enum-told : tie.Need-enum-told
 enum-told c = search needs

@@ -1,8 +1,8 @@
 -- A length within the room needs no more bits than the room.
 use Rattle.mmwave.proofs.RuleLaws.{fits-over}
 use borrow.Author.Needs.{needs}
-use Rattle.mmwave_rules.proofs.exact_fits.Statement.{statement}
-use Rattle.mmwave_rules.proofs.exact_fits.Tie as tie
+use Rattle.mmwave_lengths.proofs.exact_fits.Statement.{statement}
+use Rattle.mmwave_lengths.proofs.exact_fits.Tie as tie
 
 returns : tie.Need-returns
 returns c = fits-over _ _ _ _ (c .if1 .taken)

@@ -1,8 +1,8 @@
 -- The rule of the type, and its test.
 use Rattle.mmwave.proofs.RecordLaws.{type-test}
 use borrow.Author.Needs.{needs}
-use Rattle.mmwave_rules.proofs.type_ok.Statement.{statement}
-use Rattle.mmwave_rules.proofs.type_ok.Tie as tie
+use Rattle.mmwave_lengths.proofs.type_ok.Statement.{statement}
+use Rattle.mmwave_lengths.proofs.type_ok.Tie as tie
 
 rule-of-requires : tie.Need-rule-of-requires
 rule-of-requires c κs = search needs
