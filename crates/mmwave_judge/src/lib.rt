@@ -24,12 +24,12 @@ use mmwave_lengths::length_ok;
 use mmwave_lengths::type_ok;
 use mmwave_pieces::BAD_COUNT;
 use mmwave_pieces::BAD_FIXED;
-use mmwave_pieces::BAD_LENGTH;
 use mmwave_pieces::BAD_TOTAL;
-use mmwave_pieces::BAD_TYPE;
 use mmwave_pieces::NO_MAGIC;
 use mmwave_pieces::judge_pieces;
-use mmwave_pieces::walk;
+use mmwave_records::BAD_LENGTH;
+use mmwave_records::BAD_TYPE;
+use mmwave_records::walk;
 use mmwave_rules::rule_of;
 
 // The number in four bytes that are there.

@@ -9,13 +9,13 @@ use Rattle.mmwave.proofs.RecordLaws.{records-none, records-more, entry-fits}
 use Prim.Native.Nat.{ℕ, _<_}
 use borrow.Fn.Kinds.{In}
 use borrow.Fn.PlainCycle.{Measures, is, falls, and}
-use Rattle.mmwave_pieces.proofs.walk.Reads as walk
-use Rattle.mmwave_pieces.proofs.walk.Kinds as walk-kinds
-use Rattle.mmwave_pieces.proofs.+walk.Lts-walk as walk-lts
-use Rattle.mmwave_pieces.proofs.padding_at.Reads as padding-at-reads
-use Rattle.mmwave_pieces.proofs.record_at.Reads as record-at-reads
-use Rattle.mmwave_pieces.proofs.+walk.{statement}
-use Rattle.mmwave_pieces.proofs.+walk.Tie.{close}
+use Rattle.mmwave_records.proofs.walk.Reads as walk
+use Rattle.mmwave_records.proofs.walk.Kinds as walk-kinds
+use Rattle.mmwave_records.proofs.+walk.Lts-walk as walk-lts
+use Rattle.mmwave_records.proofs.padding_at.Reads as padding-at-reads
+use Rattle.mmwave_records.proofs.record_at.Reads as record-at-reads
+use Rattle.mmwave_records.proofs.+walk.{statement}
+use Rattle.mmwave_records.proofs.+walk.Tie.{close}
 
 abbrev μ-walk : Measures 1 walk-kinds.ps ℕ
 μ-walk κs a = a .1 .1 .1 .0

@@ -2,8 +2,8 @@
 use mathlib.Core.Path.{sym, _∙_}
 use Rattle.form.proofs.PieceLaws.{unread, taken, refused}
 use borrow.Author.Needs.{needs}
-use Rattle.mmwave_pieces.proofs.length_at.Statement.{statement}
-use Rattle.mmwave_pieces.proofs.length_at.Tie as tie
+use Rattle.mmwave_records.proofs.length_at.Statement.{statement}
+use Rattle.mmwave_records.proofs.length_at.Tie as tie
 
 number-requires : tie.Need-number-requires
 number-requires c κs = search needs

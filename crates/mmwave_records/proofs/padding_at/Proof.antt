@@ -3,8 +3,8 @@ use Rattle.form.proofs.PieceLaws.{halt}
 use Rattle.mmwave.specs.Packet.{last}
 use Rattle.mmwave.proofs.RecordLaws.{last-whole}
 use borrow.Author.Needs.{needs}
-use Rattle.mmwave_pieces.proofs.padding_at.Statement.{statement}
-use Rattle.mmwave_pieces.proofs.padding_at.Tie as tie
+use Rattle.mmwave_records.proofs.padding_at.Statement.{statement}
+use Rattle.mmwave_records.proofs.padding_at.Tie as tie
 
 skip-requires : tie.Need-skip-requires
 skip-requires c κs = search needs

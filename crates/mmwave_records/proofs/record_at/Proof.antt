@@ -4,8 +4,8 @@ use mathlib.Core.Path.{sym, _∙_}
 use Rattle.form.proofs.PieceLaws.{go-on, halt, whole-there}
 use Rattle.mmwave.specs.Packet.{entry}
 use Rattle.mmwave.proofs.RecordLaws.{length-by}
-use Rattle.mmwave_pieces.proofs.record_at.Statement.{statement}
-use Rattle.mmwave_pieces.proofs.record_at.Tie as tie
+use Rattle.mmwave_records.proofs.record_at.Statement.{statement}
+use Rattle.mmwave_records.proofs.record_at.Tie as tie
 
 type-at-requires : tie.Need-type-at-requires
 type-at-requires c κs = search needs
