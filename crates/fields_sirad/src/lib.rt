@@ -54,7 +54,7 @@ pub extern "C" fn vq_write_data(out: &mut [u8], kind: u32, content: &[u8]) -> Wr
     ensures { λ r. ⌜ Writes (dataRefusal kind (now (content .entry)))
         (dataBytes kind (now (content .entry))) (now (out .entry)) r (now (out .exit)) ⌝ }
 {
-    sirad_write::write_data(out, kind, content)
+    sirad_write_data::write_data(out, kind, content)
 }
 
 // Writes a T frame with the format, gain and targets of `frame`, whose refusal counts for nothing; 50, 51.

@@ -1,8 +1,8 @@
 -- Each arm computes the definition at its kind.
 use borrow.Author.Needs.{needs}
 use borrow.Author.Tests.{ne-eqb}
-use Rattle.sirad_write.proofs.identifier_of.Statement.{statement}
-use Rattle.sirad_write.proofs.identifier_of.Tie as tie
+use Rattle.sirad_write_data.proofs.identifier_of.Statement.{statement}
+use Rattle.sirad_write_data.proofs.identifier_of.Tie as tie
 
 returns : tie.Need-returns
 returns c = rw (c .match .keys1)

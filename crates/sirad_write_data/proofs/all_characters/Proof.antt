@@ -7,8 +7,8 @@ use lib.ListN.{length}
 use Rattle.sirad.specs.Rows.{characters}
 use Rattle.sirad_fields.specs.Values.{fit}
 use Rattle.sirad_fields.proofs.WritingLaws.{leftCharacters, characters-next, characters-fail, characters-over}
-use Rattle.sirad_write.proofs.all_characters.Statement.{statement}
-use Rattle.sirad_write.proofs.all_characters.Tie as tie
+use Rattle.sirad_write_data.proofs.all_characters.Statement.{statement}
+use Rattle.sirad_write_data.proofs.all_characters.Tie as tie
 
 abbrev Inv-loop : tie.InvT-loop
 Inv-loop content i₀ i = (i ≤ length content) × (leftCharacters content i ≡ fit (characters (length content)) content)

@@ -6,8 +6,8 @@ use Rattle.digits.proofs.RefusalLaws.{none-refused, all-written, refused-writte
 use Rattle.sirad_fields.proofs.RoundTrips.{data-fits}
 use Rattle.sirad_fields.proofs.FrameStores.{data-size}
 use borrow.Author.Needs.{needs}
-use Rattle.sirad_write.proofs.write_data.Statement.{statement}
-use Rattle.sirad_write.proofs.write_data.Tie as tie
+use Rattle.sirad_write_data.proofs.write_data.Statement.{statement}
+use Rattle.sirad_write_data.proofs.write_data.Tie as tie
 
 data-refusal-requires : tie.Need-data-refusal-requires
 data-refusal-requires c κs = tt

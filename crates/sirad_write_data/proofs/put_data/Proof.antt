@@ -1,8 +1,8 @@
 -- Start, size, reserved bytes, characters and stop, one behind the other.
 use Rattle.sirad_fields.proofs.FrameStores.{data-stored}
 use borrow.Author.Needs.{needs}
-use Rattle.sirad_write.proofs.put_data.Statement.{statement}
-use Rattle.sirad_write.proofs.put_data.Tie as tie
+use Rattle.sirad_write_data.proofs.put_data.Statement.{statement}
+use Rattle.sirad_write_data.proofs.put_data.Tie as tie
 
 identifier-of-requires : tie.Need-identifier-of-requires
 identifier-of-requires c κs = tt

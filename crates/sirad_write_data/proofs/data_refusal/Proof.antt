@@ -2,8 +2,8 @@
 use native.Mathlib.Omega.{arith}
 use Rattle.sirad_fields.proofs.WritingLaws.{kind-low, kind-high, too-many, data-accepted, data-unencoded}
 use borrow.Author.Needs.{needs}
-use Rattle.sirad_write.proofs.data_refusal.Statement.{statement}
-use Rattle.sirad_write.proofs.data_refusal.Tie as tie
+use Rattle.sirad_write_data.proofs.data_refusal.Statement.{statement}
+use Rattle.sirad_write_data.proofs.data_refusal.Tie as tie
 
 returns : tie.Need-returns
 returns c = kind-low _ _ (c .if1 .taken)
