@@ -7,7 +7,7 @@ ghost use Rattle.mmwave.specs.Internal.{lowBits};
 use mmwave::PacketDialect;
 use mmwave::Rule;
 use mmwave::Unit;
-use mmwave_header::padding_of;
+use mmwave_dialects::padding_of;
 use mmwave_rules::rule_of;
 
 // The bits below a unit.

@@ -9,9 +9,9 @@ ghost use Rattle.mmwave_pieces.specs.Internal.{reasonOf, testOf};
 use form::Judgement;
 use mmwave::Header;
 use mmwave::PacketDialect;
+use mmwave_dialects::objects_ok;
+use mmwave_dialects::subframe_ok;
 use mmwave_header::count_ok;
-use mmwave_header::objects_ok;
-use mmwave_header::subframe_ok;
 use mmwave_header::total_ok;
 use mmwave_records::walk;
 

@@ -9,7 +9,7 @@ ghost use Rattle.mmwave.specs.Dialects.{profileOf};
 use form::Judgement;
 use mmwave::PacketDialect;
 use mmwave::Rule;
-use mmwave_header::kind_of;
+use mmwave_dialects::kind_of;
 use mmwave_lengths::length_ok;
 use mmwave_lengths::type_ok;
 use mmwave_rules::rule_of;

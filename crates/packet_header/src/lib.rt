@@ -5,8 +5,8 @@ ghost use Rattle.packet.specs.Fields.{dialectNamed, noHeader, headerShown, head
 use form::Judgement;
 use mmwave::Header;
 use mmwave::PacketDialect;
-use mmwave_header::KIND;
-use mmwave_header::VITAL_KIND;
+use mmwave_dialects::KIND;
+use mmwave_dialects::VITAL_KIND;
 use packet::NamedKind;
 use packet::PacketHeader;
 

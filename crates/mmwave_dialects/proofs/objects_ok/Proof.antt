@@ -1,8 +1,8 @@
 -- One arm for each dialect.
 use Rattle.mmwave.proofs.RuleLaws.{objects-mmwave, objects-vital}
 use borrow.Author.Needs.{needs}
-use Rattle.mmwave_header.proofs.objects_ok.Statement.{statement}
-use Rattle.mmwave_header.proofs.objects_ok.Tie as tie
+use Rattle.mmwave_dialects.proofs.objects_ok.Statement.{statement}
+use Rattle.mmwave_dialects.proofs.objects_ok.Tie as tie
 
 enum-told : tie.Need-enum-told
 enum-told c = search needs

@@ -5,8 +5,8 @@ use Rattle.mmwave.specs.Dialects.{profileOf}
 use Rattle.mmwave.specs.MmWave.{mmWave}
 use Rattle.mmwave.specs.VitalSigns.{vitalSigns}
 use borrow.Author.Needs.{needs}
-use Rattle.mmwave_header.proofs.padding_of.Statement.{statement}
-use Rattle.mmwave_header.proofs.padding_of.Tie as tie
+use Rattle.mmwave_dialects.proofs.kind_of.Statement.{statement}
+use Rattle.mmwave_dialects.proofs.kind_of.Tie as tie
 
 enum-told : tie.Need-enum-told
 enum-told c = search needs
@@ -16,11 +16,11 @@ enum-told-2 c = search needs
 
 returns : tie.Need-returns
 unfolding profileOf mmWave
-returns c = ap (λ (d : PacketDialect). profileOf d .padding) (sym (c .enum-told .given .1))
+returns c = ap (λ (d : PacketDialect). profileOf d .kind) (sym (c .enum-told .given .1))
 
 returns-2 : tie.Need-returns-2
 unfolding profileOf vitalSigns
-returns-2 c = ap (λ (d : PacketDialect). profileOf d .padding) (sym (c .enum-told2 .given .1))
+returns-2 c = ap (λ (d : PacketDialect). profileOf d .kind) (sym (c .enum-told2 .given .1))
 
-pub padding-of-spec : {M : Type 1} → statement M
-padding-of-spec = tie.close (tie.spec enum-told enum-told-2 returns returns-2)
+pub kind-of-spec : {M : Type 1} → statement M
+kind-of-spec = tie.close (tie.spec enum-told enum-told-2 returns returns-2)

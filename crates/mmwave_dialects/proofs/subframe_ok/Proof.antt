@@ -1,8 +1,8 @@
 -- One arm for each dialect.
 use Rattle.mmwave.proofs.RuleLaws.{subframe-mmwave, subframe-vital}
 use borrow.Author.Needs.{needs}
-use Rattle.mmwave_header.proofs.subframe_ok.Statement.{statement}
-use Rattle.mmwave_header.proofs.subframe_ok.Tie as tie
+use Rattle.mmwave_dialects.proofs.subframe_ok.Statement.{statement}
+use Rattle.mmwave_dialects.proofs.subframe_ok.Tie as tie
 
 enum-told : tie.Need-enum-told
 enum-told c = search needs
