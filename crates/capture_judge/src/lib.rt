@@ -1,14 +1,15 @@
-// The dialects by their numbers, and the judgement at an offset (paper 01, "Judging a place"; paper 02, (i)).
+// The judgement at an offset, by a dialect's number (paper 01, "Judging a place"; paper 02, (i)). The dialects are handed on for callers.
 
 use capture::Asked;
 use capture::Dialect;
 use capture::Verdict;
+pub use capture_dialects::dialect_of;
+pub use capture_dialects::number_of;
+pub use capture_dialects::start_byte;
 use form::Judgement;
-use mmwave::PacketDialect;
 ghost use mathlib.Core.Path.{_≡_};
-ghost use Prim.Native.Nat.{_<_};
 ghost use lib.ListN.{drop};
-ghost use Rattle.capture.specs.Dialects.{dialectOf, packetNumber, dialectNumber, formOf, judgeOf, startOf};
+ghost use Rattle.capture.specs.Dialects.{formOf, judgeOf};
 ghost use Rattle.form.specs.Numbers.{Judges};
 ghost use Rattle.capture.specs.Entries.{verdict, JudgesAt};
 
@@ -21,48 +22,6 @@ pub const UNKNOWN_DIALECT: u32 = 1;
 pub const BEYOND_END: u32 = 2;
 
 pub const TOO_MANY_BYTES: u32 = 3;
-
-// The dialect that a number asks for.
-pub fn dialect_of(number: u32) -> Asked
-    ensures { λ r. ⌜ r ≡ dialectOf number ⌝ }
-{
-    match number {
-        0 => Asked::Known(Dialect::Sirad),
-        1 => Asked::Known(Dialect::Packets(PacketDialect::MmWave)),
-        2 => Asked::Known(Dialect::Packets(PacketDialect::VitalSigns)),
-        _ => Asked::Unknown,
-    }
-}
-
-// The number of a packet dialect.
-fn packet_number(d: PacketDialect) -> u32
-    ensures { λ r. ⌜ r ≡ packetNumber d ⌝ }
-{
-    match d {
-        PacketDialect::MmWave => 1,
-        PacketDialect::VitalSigns => 2,
-    }
-}
-
-// The number of a dialect.
-pub fn number_of(d: Dialect) -> u32
-    ensures { λ r. ⌜ r ≡ dialectNumber d ⌝ }
-{
-    match d {
-        Dialect::Sirad => 0,
-        Dialect::Packets(p) => packet_number(p),
-    }
-}
-
-// The byte with which every frame of a dialect starts.
-pub fn start_byte(d: Dialect) -> u8
-    ensures { λ r. ⌜ r ≡ startOf d ⌝ }
-{
-    match d {
-        Dialect::Sirad => 33,
-        Dialect::Packets(_) => 2,
-    }
-}
 
 fn judge_part(bytes: &[u8], d: Dialect) -> Judgement
     ensures { λ r. ⌜ r ≡ judgeOf d (now (bytes .entry)) ⌝ }

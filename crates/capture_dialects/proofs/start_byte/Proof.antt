@@ -2,8 +2,8 @@
 use mathlib.Core.Path.{sym, ap}
 use Rattle.capture.specs.Dialects.{startOf}
 use borrow.Author.Needs.{needs}
-use Rattle.capture_judge.proofs.start_byte.Statement.{statement}
-use Rattle.capture_judge.proofs.start_byte.Tie as tie
+use Rattle.capture_dialects.proofs.start_byte.Statement.{statement}
+use Rattle.capture_dialects.proofs.start_byte.Tie as tie
 
 enum-told : tie.Need-enum-told
 enum-told c = search needs

@@ -2,8 +2,8 @@
 use mathlib.Core.Path.{sym, ap, _∙_}
 use Rattle.capture.specs.Dialects.{dialectNumber}
 use borrow.Author.Needs.{needs}
-use Rattle.capture_judge.proofs.number_of.Statement.{statement}
-use Rattle.capture_judge.proofs.number_of.Tie as tie
+use Rattle.capture_dialects.proofs.number_of.Statement.{statement}
+use Rattle.capture_dialects.proofs.number_of.Tie as tie
 
 enum-told : tie.Need-enum-told
 enum-told c = search needs

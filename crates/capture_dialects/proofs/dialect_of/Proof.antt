@@ -3,8 +3,8 @@ use mathlib.Core.Path.{sym, ap}
 use native.Mathlib.Omega.{arith}
 use Rattle.capture.specs.Dialects.{dialectOf}
 use Rattle.capture.proofs.Wires.{dialect-none}
-use Rattle.capture_judge.proofs.dialect_of.Statement.{statement}
-use Rattle.capture_judge.proofs.dialect_of.Tie as tie
+use Rattle.capture_dialects.proofs.dialect_of.Statement.{statement}
+use Rattle.capture_dialects.proofs.dialect_of.Tie as tie
 
 returns : tie.Need-returns
 unfolding dialectOf
