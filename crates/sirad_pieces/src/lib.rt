@@ -1,4 +1,4 @@
-// The pieces of a SiRad frame: runs of bytes, and the blocks of a target list (paper 01, "SiRad"; paper 02, (ii)).
+// The pieces of a SiRad frame, many bytes at once: runs of bytes, and the blocks of a target list (paper 01, "SiRad"; paper 02, (ii)).
 
 ghost use mathlib.Core.Path.{_≡_};
 ghost use mathlib.Core.Bool.{true};
@@ -8,34 +8,17 @@ ghost use Rattle.form.specs.Form.{judgeAt};
 ghost use Rattle.form.specs.Numbers.{Judges};
 ghost use Rattle.sirad.specs.Classes.{Hex, Char};
 ghost use Rattle.sirad.specs.Rows.{behindNumber};
-ghost use Rattle.sirad.specs.Sirad.{lay, run, target, block};
+ghost use Rattle.sirad.specs.Sirad.{lay, run, block};
 ghost use Rattle.sirad.specs.Internal.{classOf, StepOf};
 use form::Judgement;
 use sirad::ByteClass;
-use sirad_bytes::byte_of;
 use sirad_bytes::is_of;
-
-const BLOCK_BYTES: usize = 14;
+use sirad_bytewise::BLOCK_BYTES;
+use sirad_bytewise::block_slowly;
+use sirad_bytewise::span;
 
 // Bytes that are tested together; any number from 1 on would do.
 const CHUNK: usize = 64;
-
-// n bytes of a class, one by one: finds the first that fails.
-fn span(s: &[u8], from: usize, n: usize, c: ByteClass) -> Judgement
-    ensures { λ r. ⌜ r ≡ judgeAt (run n (classOf c)) from (now (s .entry)) ⌝ }
-{
-    let mut at = from;
-    let mut left = n;
-    while 0 < left {
-        let a = byte_of(s, at, c);
-        let Judgement::Whole(_, e) = a else {
-            return a;
-        };
-        at = e;
-        left = left - 1;
-    }
-    Judgement::Whole(0, at)
-}
 
 // Whether all n bytes are of the class, without a branch on data; false says nothing.
 fn all_of(s: &[u8], from: usize, n: usize, c: ByteClass) -> bool
@@ -130,39 +113,6 @@ fn seen_block(s: &[u8], p: usize) -> bool
         return seen_behind(s, p);
     }
     all_of(s, p, BLOCK_BYTES, ByteClass::Zero)
-}
-
-// A target byte by byte: finds the first that fails.
-fn target_slowly(s: &[u8], at: usize) -> Judgement
-    ensures { λ r. ⌜ r ≡ judgeAt target at (now (s .entry)) ⌝ }
-{
-    let a = span(s, at, 5, ByteClass::Hex);
-    let Judgement::Whole(_, i) = a else {
-        return a;
-    };
-    let b = span(s, i, 1, ByteClass::Char);
-    let Judgement::Whole(_, j) = b else {
-        return b;
-    };
-    let c = span(s, j, 4, ByteClass::Hex);
-    let Judgement::Whole(_, k) = c else {
-        return c;
-    };
-    span(s, k, 4, ByteClass::Char)
-}
-
-// A block byte by byte: a first byte of value 0 commits the other thirteen, any other starts a target.
-fn block_slowly(s: &[u8], at: usize) -> Judgement
-    ensures { λ r. ⌜ r ≡ judgeAt block at (now (s .entry)) ⌝ }
-{
-    if s.len() <= at {
-        return Judgement::Waiting;
-    }
-    let first = s[at];
-    if first == 0 {
-        return span(s, at, BLOCK_BYTES, ByteClass::Zero);
-    }
-    target_slowly(s, at)
 }
 
 pub fn block_at(s: &[u8], from: usize) -> Judgement

@@ -21,7 +21,7 @@ block-slowly-requires : tie.Need-block-slowly-requires
 block-slowly-requires c κs = search needs
 
 returns-2 : tie.Need-returns-2
-returns-2 c = judges (c .block-slowly .ensures)
+returns-2 c = c .block-slowly .ensures
 
 pub block-at-spec : {M : Type 1} → statement M
 block-at-spec =

@@ -20,7 +20,7 @@ span-requires : tie.Need-span-requires
 span-requires c κs = search needs
 
 returns-2 : tie.Need-returns-2
-returns-2 c = c .span .ensures
+returns-2 c = c .span .ensures .answers
 
 pub few-chars-spec : {M : Type 1} → statement M
 few-chars-spec = tie.close (tie.spec sub-if2 all-of-requires add-end returns span-requires returns-2)

@@ -21,7 +21,7 @@ span-requires : tie.Need-span-requires
 span-requires c κs = search needs
 
 returns-2 : tie.Need-returns-2
-returns-2 c = judges (c .span .ensures)
+returns-2 c = c .span .ensures
 
 pub hexes-spec : {M : Type 1} → statement M
 hexes-spec = tie.close (tie.spec sub-if2 all-of-requires add-end returns span-requires returns-2)
