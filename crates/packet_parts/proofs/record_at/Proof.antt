@@ -1,7 +1,7 @@
--- `packet_reader::record_at` meets its contract: the packet's record of this index.
+-- `packet_parts::record_at` meets its contract: the packet's record of this index.
 use borrow.Author.Needs.{needs}
-use Rattle.packet_reader.proofs.record_at.Statement.{statement}
-use Rattle.packet_reader.proofs.record_at.Tie as tie
+use Rattle.packet_parts.proofs.record_at.Statement.{statement}
+use Rattle.packet_parts.proofs.record_at.Tie as tie
 
 record-requires : tie.Need-record-requires
 record-requires c κs = search needs

@@ -7,7 +7,7 @@ use lib.ListN.{length, take, drop}
 use borrow.Author.Tests.{le-leb, lt-leb}
 use Rattle.packet.specs.Fields.{payloadOf, RecordShown}
 use Rattle.packet.specs.declared.PacketRecord.{PacketRecord}
-use Rattle.packet_reader.specs.Internal.{partOf}
+use Rattle.packet_parts.specs.Internal.{partOf}
 
 -- no such part
 pub part-none : (bs : List ℕ) (r : PacketRecord) → length bs < r .start + r .length → [] ≡ partOf bs r

@@ -1,4 +1,4 @@
--- `packet_reader::show` meets its contract: a walk of its code, by hand. The reader is taken apart, `record_at` is called on its kind and
+-- `packet_parts::show` meets its contract: a walk of its code, by hand. The reader is taken apart, `record_at` is called on its kind and
 -- its slice, and `part_of` on the slice and on the record; the part that comes back and two numbers of the record are put together in the
 -- result's local.
 -- The reader is Copy: before each call what it owns is had twice, and one copy is kept whole for the exit.
@@ -50,26 +50,26 @@ use Rattle.packet.specs.Fields.{RecordShown}
 use Rattle.packet.specs.declared.PacketRecord.{PacketRecord}
 use Rattle.packet.proofs.PacketRecord as S
 use Rattle.packet.proofs.PacketRecord.Laws as S′
-use Rattle.packet_reader.specs.Internal.{partOf}
+use Rattle.packet_parts.specs.Internal.{partOf}
 use Rattle.packet_reader.specs.declared.PacketReader.{PacketReader}
-use Rattle.packet_reader.specs.declared.RecordPart.{RecordPart}
-use Rattle.packet_reader.proofs.PartLaws.{part-is-payload}
+use Rattle.packet_parts.specs.declared.RecordPart.{RecordPart}
+use Rattle.packet_parts.proofs.PartLaws.{part-is-payload}
 use Rattle.packet_reader.proofs.PacketReader as T
 use Rattle.packet_reader.proofs.PacketReader.Laws as T′
-use Rattle.packet_reader.proofs.RecordPart as P
-use Rattle.packet_reader.proofs.RecordPart.Laws as P′
-use Rattle.packet_reader.proofs.record_at as record-at
-use Rattle.packet_reader.proofs.record_at.Symbol as record-at-def
-use Rattle.packet_reader.proofs.record_at.Symbol.{name as #record-at}
-use Rattle.packet_reader.proofs.record_at.Met as record-at-thm
-use Rattle.packet_reader.proofs.part_of as part-of
-use Rattle.packet_reader.proofs.part_of.Symbol as part-of-def
-use Rattle.packet_reader.proofs.part_of.Symbol.{name as #part-of}
-use Rattle.packet_reader.proofs.part_of.Met as part-of-thm
-use Rattle.packet_reader.proofs.show.Key.{name as #show}
-use Rattle.packet_reader.proofs.show as show
-use Rattle.packet_reader.proofs.show.Statement as stated
-use Rattle.packet_reader.proofs.show.Code as code
+use Rattle.packet_parts.proofs.RecordPart as P
+use Rattle.packet_parts.proofs.RecordPart.Laws as P′
+use Rattle.packet_parts.proofs.record_at as record-at
+use Rattle.packet_parts.proofs.record_at.Symbol as record-at-def
+use Rattle.packet_parts.proofs.record_at.Symbol.{name as #record-at}
+use Rattle.packet_parts.proofs.record_at.Met as record-at-thm
+use Rattle.packet_parts.proofs.part_of as part-of
+use Rattle.packet_parts.proofs.part_of.Symbol as part-of-def
+use Rattle.packet_parts.proofs.part_of.Symbol.{name as #part-of}
+use Rattle.packet_parts.proofs.part_of.Met as part-of-thm
+use Rattle.packet_parts.proofs.show.Key.{name as #show}
+use Rattle.packet_parts.proofs.show as show
+use Rattle.packet_parts.proofs.show.Statement as stated
+use Rattle.packet_parts.proofs.show.Code as code
 
 -- the reader's type, over the signature's lifetimes
 abbrev B : Lfts 1 → RattleType
@@ -331,7 +331,7 @@ show-spec 𝓤 H 𝓜 𝓖 𝓡 =
     entered 𝓤 H (tripleOf 𝓤 H (𝓖 .A) show.signature (show.spec 𝓤 H (𝓖 .A) (𝓜 .mem) (𝓡 .run)))
     (tables 𝓤 H 𝓜 𝓡 code.env .C) (tables 𝓤 H 𝓜 𝓡 code.env .Λ) #show code.function (code.unfolded 𝓤 H 𝓜 𝓡)
     (show-meets 𝓤 H (𝓖 .A) (givenOf 𝓤 H 𝓜 𝓖) (𝓜 .mem) (𝓡 .run) (tablesOf 𝓤 H 𝓜 (tables 𝓤 H 𝓜 𝓡 code.env))
-    (cited 𝓤 H (RecordAt 𝓤 H (𝓖 .A) (𝓜 .mem) (𝓡 .run)) 𝓜 𝓡 code.env #record-at record-at-def.routine code.calls-packet-reader·record-at
+    (cited 𝓤 H (RecordAt 𝓤 H (𝓖 .A) (𝓜 .mem) (𝓡 .run)) 𝓜 𝓡 code.env #record-at record-at-def.routine code.calls-packet-parts·record-at
     (record-at-thm.met 𝓤 H 𝓜 𝓖 𝓡))
-    (cited 𝓤 H (PartOf 𝓤 H (𝓖 .A) (𝓜 .mem) (𝓡 .run)) 𝓜 𝓡 code.env #part-of part-of-def.routine code.calls-packet-reader·part-of
+    (cited 𝓤 H (PartOf 𝓤 H (𝓖 .A) (𝓜 .mem) (𝓡 .run)) 𝓜 𝓡 code.env #part-of part-of-def.routine code.calls-packet-parts·part-of
     (part-of-thm.met 𝓤 H 𝓜 𝓖 𝓡)))

@@ -1,9 +1,9 @@
--- `packet_reader::part_of` meets its contract: the two tests say that the part lies within the slice.
+-- `packet_parts::part_of` meets its contract: the two tests say that the part lies within the slice.
 use native.Mathlib.Omega.{arith}
-use Rattle.packet_reader.proofs.PartLaws.{part-none, part-there}
+use Rattle.packet_parts.proofs.PartLaws.{part-none, part-there}
 use borrow.Author.Needs.{needs}
-use Rattle.packet_reader.proofs.part_of.Statement.{statement}
-use Rattle.packet_reader.proofs.part_of.Tie as tie
+use Rattle.packet_parts.proofs.part_of.Statement.{statement}
+use Rattle.packet_parts.proofs.part_of.Tie as tie
 
 slice-aggregate-result : tie.Need-slice-aggregate-result
 slice-aggregate-result c = search needs
