@@ -1,5 +1,6 @@
 pub mod PieceLaws
 pub mod Theorems
+pub mod Bounds
 pub mod Lives
 pub mod Refusals
 pub mod Insides

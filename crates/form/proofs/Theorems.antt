@@ -22,7 +22,7 @@ not-both a b = let z : _≡_ {A = ℕ} 0 1 = cc in absurd (omega arith)
 bad-whole : {A : Type 0} {j : Judgement} {r k n : ℕ} → j ≡ Bad r → j ≡ Whole k n → A
 bad-whole a b = let z : _≡_ {A = ℕ} 0 1 = cc in absurd (omega arith)
 
-bad-waits : {A : Type 0} {j : Judgement} {r : ℕ} → j ≡ Bad r → j ≡ Waiting → A
+pub bad-waits : {A : Type 0} {j : Judgement} {r : ℕ} → j ≡ Bad r → j ≡ Waiting → A
 bad-waits a b = let z : _≡_ {A = ℕ} 0 1 = cc in absurd (omega arith)
 
 -- -- Whole exactly if a frame stands

@@ -15,4 +15,5 @@ pub mod Reasons
 pub mod MmWaveSays
 pub mod VitalSays
 pub mod Dialects
+pub mod Longest
 pub mod Judged

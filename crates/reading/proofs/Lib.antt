@@ -5,3 +5,4 @@ pub mod Rows
 pub mod LeftmostLaws
 pub mod CourseLaws
 pub mod Going
+pub mod Open

@@ -41,7 +41,7 @@ shifted-read judge closed n (suc pass) at room (b ∷ bs) =
     ap (λ (i : ℕ). read judge closed pass i room bs) e ∙ shifted-read judge closed n pass (at + 1) room bs
 
 -- the same from the start of the bytes
-shifted-start : (judge : List ℕ → Judgement) (closed : Bool) (n room : ℕ) (bs : List ℕ)
+pub shifted-start : (judge : List ℕ → Judgement) (closed : Bool) (n room : ℕ) (bs : List ℕ)
     → read judge closed 0 n room bs ≡ shifted n (reading judge closed room bs)
 shifted-start judge closed n room bs = ap (λ (i : ℕ). read judge closed 0 i room bs) (sym (add-zero n))
     ∙ shifted-read judge closed n 0 0 room bs
@@ -82,7 +82,7 @@ drop-none at bs = rw (sub-self at)
 -- -- The resume laws
 
 -- the reading of the bytes, the first of which is at offset at, from offset next on
-abbrev rest : (List ℕ → Judgement) → Bool → ℕ → ℕ → List ℕ → ℕ → Reading
+abbrev pub rest : (List ℕ → Judgement) → Bool → ℕ → ℕ → List ℕ → ℕ → Reading
 rest judge closed at more bs next = read judge closed 0 next more (drop (next - at) bs)
 
 -- a reading that stops at once is followed by the whole reading
@@ -125,7 +125,7 @@ module _ (judge : List ℕ → Judgement) (L : Lawful judge) (closed : Bool) (B 
       by-flag false c = L .stays bs B (λ w. true-false (h w) c)
 
   -- the reading of A followed by B goes on where that of A stopped
-  resumes : (pass at room more : ℕ) (A : List ℕ) → pass ≤ length A
+  pub resumes : (pass at room more : ℕ) (A : List ℕ) → pass ≤ length A
       → let r = read judge closed pass at room A in
       read judge closed pass at (length (r .rows) + more) (A ++ B) ≡ joined r (rest judge closed at more (A ++ B) (r .next))
   unfolding read
@@ -153,8 +153,7 @@ module _ (judge : List ℕ → Judgement) (L : Lawful judge) (closed : Bool) (B 
       ∙ ap (joined r) (rw sub-zero (shifted-start judge closed (r .next) more (drop (r .next) (A ++ B))))
 
 -- the open reading of A followed by B is that of A, and then the open reading from its next offset on, shifted: whether A's stopped to
--- wait or for
--- want of a row
+-- wait or for want of a row
 pub open-resumes : (judge : List ℕ → Judgement) → Lawful judge → (room more : ℕ) (A B : List ℕ) → let r = reading judge false room A in
     reading judge false (length (r .rows) + more) (A ++ B) ≡ joined r
     (shifted (r .next) (reading judge false more (drop (r .next) (A ++ B))))

@@ -6,4 +6,5 @@ pub mod TableLaws
 pub mod BlockLaws
 pub mod Theorems
 pub mod Starts
+pub mod Longest
 pub mod Reasons
