@@ -16,6 +16,7 @@ use Rattle.digits.specs.LittleEndian.{toLittle, fromLittle}
 use Rattle.digits.specs.Hex.{digit}
 use Rattle.digits.proofs.Choices.{test}
 use Rattle.digits.proofs.Lists.{below-drop}
+use Rattle.digits.proofs.StoreLaws.{stored-start}
 use Rattle.form.specs.Form.{judge, Completable, _>>=_}
 use Rattle.form.specs.Pieces.{marker, free, frees}
 use Rattle.form.specs.declared.Judgement.{Judgement}
@@ -26,6 +27,8 @@ use Rattle.reading.specs.Leftmost.{StandsAt, NoneAt, NoneStands, Leftmost, none
 use Rattle.reading.specs.Reading.{Reading, reading, flat, rowWidth}
 use Rattle.reading.specs.declared.Answer.{Answer}
 use Rattle.reading.specs.declared.Row.{Row}
+use Rattle.reading.specs.Resuming.{openFrom}
+use Rattle.reading.proofs.Open.{roomy, stopped}
 use Rattle.reading.proofs.Prefix as prefix
 use Rattle.reading.proofs.Resuming as resuming
 use Rattle.reading.proofs.Rows as rows
@@ -55,6 +58,7 @@ use Rattle.capture.specs.Demands.{StandsIn, judgedAt, EndsInsideField}
 use Rattle.capture.specs.Dialects.{dialectOf, formOf, judgeOf, startOf}
 use Rattle.capture.specs.Edges.{edges, vitalEdges, blockEdges}
 use Rattle.capture.specs.Entries.{maxBytes, verdict, verdictNumbers, readAnswer, readLeaves}
+use Rattle.capture.specs.Feeding.{inCall, callReading, restOf, feedAnswer}
 use Rattle.capture.specs.Lines.{closedRows, emptyPart, chosen, partOf}
 use Rattle.capture.specs.declared.Asked.the-variants.{Known, Unknown}
 use Rattle.capture.specs.declared.Dialect.{Dialect}
@@ -63,7 +67,9 @@ use Rattle.capture.specs.declared.Verdict.{Verdict}
 use Rattle.capture.specs.declared.Verdict.the-variants.{Refused, Judged}
 use Rattle.capture.proofs.EntryLaws.{unknown-refused, verdict-long, verdict-beyond, verdict-judged}
 use Rattle.capture.proofs.LineLaws.{unknown-part, main-long, standby-long, both-short}
-use Rattle.capture.proofs.Wires.{lawful-of, no-start, dialect-none}
+use Rattle.capture.proofs.FeedLaws.{exactly-62, exactly-3, exactly-61, exactly-60, exactly-0, never-1}
+use Rattle.capture.proofs.RunLaws.{answer-number, accepted-call, unchanged, going}
+use Rattle.capture.proofs.Wires.{lawful-of, no-start, dialect-none, waiting-short}
 
 -- -- From the judgement to the entry
 
@@ -355,6 +361,60 @@ alone bs at i w l k n s = within (decLt i (length bs))
 
 pub sirad-open-is-closed : say.SiradOpenIsClosed
 sirad-open-is-closed bs room = leftmost.open-is-closed (judgeOf Sirad) (lawful-of Sirad) bs (alone bs) room
+
+-- -- Bytes as the port gives them
+
+pub feeds-as-one : say.FeedsAsOne
+unfolding openFrom
+feeds-as-one number d e s carry bs numbers run =
+    let g = going number d e run in
+    record {
+      rows = λ room h. g .rows ∙ ap (λ (r : Reading). flat (r .rows)) (sym (roomy (judgeOf d) (lawful-of d) 0 bs room h));
+      offset = g .offset;
+      waiting = g .waiting;
+      carried = g .carried;
+    }
+
+pub feed-answers-the-reading : say.FeedAnswersTheReading
+feed-answers-the-reading number d e s carry bytes table r carry′ table′ f z =
+    let a = accepted-call d s carry bytes table r carry′ table′ (rw e at f) z in
+    let ws = callReading d s carry bytes .rows in
+    let n = rows.length-flat ws in
+    let fit = a .fits .rows in (
+      a .answer,
+      a .kept ∙ stored-start carry (restOf d s carry bytes) (a .fits .rest),
+      a .laid ∙ rw (← n) (stored-start table (flat ws) (omega arith)),
+    )
+
+pub feed-refusal-changes-nothing : say.FeedRefusalChangesNothing
+feed-refusal-changes-nothing number = unchanged (dialectOf number)
+
+pub feed-refuses-dialects : say.FeedRefusesDialects
+unfolding feedAnswer
+feed-refuses-dialects number s carry bytes room = by-number (decLt number 3)
+  where
+    by-number : Dec (number < 3) → (feedAnswer (dialectOf number) s carry bytes room .refusal ≡ 1) ↔ (3 ≤ number)
+    by-number (yes l) =
+        let k = asked-is number l in
+        let n = answer-number (k .0) s carry bytes room in
+        ((λ h. absurd (never-1 (k .0) s carry bytes room (sym n ∙ rw (k .1) at h))), (λ h. absurd (omega arith)))
+    by-number (no l) = ((λ h. omega arith), (λ h. rw (asked-none number h)))
+
+pub feed-refuses-exactly : say.FeedRefusesExactly
+feed-refuses-exactly d s carry bytes room = rw (answer-number d s carry bytes room) (record {
+  by-state = exactly-62 d s carry bytes room;
+  by-size = exactly-3 d s carry bytes room;
+  by-rows = exactly-61 d s carry bytes room;
+  by-rest = exactly-60 d s carry bytes room;
+  by-none = let h = exactly-0 d s carry bytes room in (
+    (λ e. let f = h .0 e in (f .state, f .size, f .rows, f .rest)),
+    (λ t. h .1 (record { state = t .0; size = t .1; rows = t .2; rest = t .3 })),
+  );
+})
+
+pub carry-enough : say.CarryEnough
+unfolding restOf callReading
+carry-enough d s carry bytes = waiting-short d _ (stopped (judgeOf d) (lawful-of d) (s .offset) (inCall s carry bytes) .waits)
 
 -- -- Values at the edges
 

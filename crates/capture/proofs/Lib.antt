@@ -2,5 +2,10 @@ pub mod ScanLaws
 pub mod EntryLaws
 pub mod Wires
 pub mod Turns
+pub mod Tallying
+pub mod Seams
+pub mod CarryLaws
+pub mod FeedLaws
+pub mod RunLaws
 pub mod LineLaws
 pub mod Demands

@@ -1,8 +1,8 @@
 -- The front door: what is proved of captures, in the words of the demands and of paper 01.
 -- Each definition below is a proposition under its words; its proof has the same name in small letters, in proofs/Demands.antt.
 -- `judge_at` promises that its answer is `verdict`, the readings that theirs are `readAnswer` and that they leave `readLeaves` in the
--- table, the choice of lines that its part is `partOf` (and, `RefersTo`, that the reference is to that part): so what is said of these is
--- said of the answers. Lists hold any numbers; `Bytes` says that each is below 256 where a theorem needs it.
+-- table, the choice of lines that its part is `partOf` (and, `RefersTo`, that the reference is to that part), the feeder what `Feeds` says:
+-- so what is said of these is said of the answers. Lists hold any numbers; `Bytes` says that each is below 256 where a theorem needs it.
 use mathlib.Core.Bool.{Bool, true, false}
 use mathlib.Core.Path.{_≡_}
 use mathlib.Core.List.{List, [], _∷_, _++_, map}
@@ -26,14 +26,18 @@ use Rattle.mmwave.specs.declared.PacketDialect.{PacketDialect}
 use Rattle.mmwave.specs.Packet.{packet}
 use Rattle.mmwave.specs.Paper.{vitalSays, Packet, EndsInField}
 use Rattle.mmwave.specs.Dialects.{profileOf, sentencesOf}
-use Rattle.capture.specs.Dialects.{dialectOf, formOf, judgeOf}
+use Rattle.capture.specs.Dialects.{dialectOf, formOf, judgeOf, longestOf}
 use Rattle.capture.specs.Edges.{Line, resultOf, edges, vitalEdges, blockEdges}
 use Rattle.capture.specs.Entries.{maxBytes, verdict, verdictNumbers, readAnswer, readLeaves}
+use Rattle.capture.specs.Feeding.{callReading, restOf, accepted, feedAnswer, Feeds}
 use Rattle.capture.specs.Lines.{rowPart, emptyPart, partOf}
+use Rattle.capture.specs.Runs.{Run, AsOne}
 use Rattle.capture.specs.declared.Asked.{Asked}
 use Rattle.capture.specs.declared.Asked.the-variants.{Known}
 use Rattle.capture.specs.declared.Dialect.{Dialect}
 use Rattle.capture.specs.declared.Dialect.the-variants.{Sirad, Packets}
+use Rattle.capture.specs.declared.Fed.{Fed}
+use Rattle.capture.specs.declared.Stream.{Stream}
 use Rattle.capture.specs.declared.Verdict.{Verdict}
 use Rattle.capture.specs.declared.Verdict.the-variants.{Judged}
 
@@ -251,6 +255,64 @@ RefusedLineIsEmpty =
     (number : ℕ) (main standby : List ℕ) (closed : Bool) (room : ℕ)
     → ((readAnswer (dialectOf number) closed main room .refusal ≡ 0) × (readAnswer (dialectOf number) closed standby room .refusal ≡ 0)
     → ⊥) → partOf (dialectOf number) main standby ≡ emptyPart
+
+-- -- Bytes as the port gives them (paper 02, (iii))
+-- `feed` promises `Feeds`: its answer is `feedAnswer`, and it leaves `feedKeeps` in the carry buffer and `feedLeaves` in the table.
+
+-- however a stream was cut into calls, its accepted calls' rows, joined, are the rows of the open reading of their new bytes at once with
+-- room for them; the state's place and waiting bytes are that reading's next place and rest
+abbrev pub FeedsAsOne : Type 0
+FeedsAsOne =
+    (number : ℕ) (d : Dialect) → dialectOf number ≡ Known d → (s : Stream) (carry bs numbers : List ℕ) → Run number s carry bs numbers
+    → AsOne d s carry bs numbers
+
+-- an accepted call answers how many rows it wrote and where the stream stands; the table at exit is these rows and the carry the waiting
+-- bytes, each with what was behind them as it was
+abbrev pub FeedAnswersTheReading : Type 0
+FeedAnswersTheReading =
+    (number : ℕ) (d : Dialect) → dialectOf number ≡ Known d
+    → (s : Stream) (carry bytes table : List ℕ) (r : Fed) (carry′ table′ : List ℕ) → Feeds number s carry bytes table r carry′ table′
+    → r .refusal ≡ 0
+    → (let ws = callReading d s carry bytes .rows in
+    let rest = restOf d s carry bytes in
+    (r ≡ accepted d s carry bytes) × (carry′ ≡ rest ++ drop (length rest) carry)
+    × (table′ ≡ flat ws ++ drop (rowWidth * length ws) table))
+
+-- a refusal returns the state as it was handed in, and changes neither the carry buffer nor the table
+abbrev pub FeedRefusalChangesNothing : Type 0
+FeedRefusalChangesNothing =
+    (number : ℕ) (s : Stream) (carry bytes table : List ℕ) (r : Fed) (carry′ table′ : List ℕ)
+    → Feeds number s carry bytes table r carry′ table′ → (r .refusal ≡ 0 → ⊥)
+    → (r .stream ≡ s) × (r .rows ≡ 0) × (carry′ ≡ carry) × (table′ ≡ table)
+
+-- refusal 1 exactly for a dialect other than 0, 1 and 2
+abbrev pub FeedRefusesDialects : Type 0
+FeedRefusesDialects =
+    (number : ℕ) (s : Stream) (carry bytes : List ℕ) (room : ℕ)
+    → (feedAnswer (dialectOf number) s carry bytes room .refusal ≡ 1) ↔ (3 ≤ number)
+
+-- then each refusal exactly if none before it applies and its own words do: 62 if the state counts more waiting bytes than the carry buffer
+-- holds, 3 if place, waiting and new bytes together exceed 1,048,576, 61 if the call's frames exceed the row table, 60 if the bytes left
+-- waiting exceed the carry buffer
+pub record RefusedExactly (d : Dialect) (s : Stream) (carry bytes : List ℕ) (room number : ℕ) : Type 0 where
+  pub by-state : (number ≡ 62) ↔ (length carry < s .waiting)
+  pub by-size : (number ≡ 3) ↔ ((s .waiting ≤ length carry) × (maxBytes < s .offset + s .waiting + length bytes))
+  pub by-rows : (number ≡ 61) ↔ ((s .waiting ≤ length carry) × (s .offset + s .waiting + length bytes ≤ maxBytes)
+      × (room < length (callReading d s carry bytes .rows)))
+  pub by-rest : (number ≡ 60) ↔ ((s .waiting ≤ length carry) × (s .offset + s .waiting + length bytes ≤ maxBytes)
+      × (length (callReading d s carry bytes .rows) ≤ room) × (length carry < length (restOf d s carry bytes)))
+  pub by-none : (number ≡ 0) ↔ ((s .waiting ≤ length carry) × (s .offset + s .waiting + length bytes ≤ maxBytes)
+      × (length (callReading d s carry bytes .rows) ≤ room) × (length (restOf d s carry bytes) ≤ length carry))
+
+-- that of every call
+abbrev pub FeedRefusesExactly : Type 0
+FeedRefusesExactly =
+    (d : Dialect) (s : Stream) (carry bytes : List ℕ) (room : ℕ)
+    → RefusedExactly d s carry bytes room (feedAnswer (Known d) s carry bytes room .refusal)
+
+-- fewer bytes are left waiting than the longest frame has, so a carry buffer of 65,550 bytes (for packets 32,767) is never too short
+abbrev pub CarryEnough : Type 0
+CarryEnough = (d : Dialect) (s : Stream) (carry bytes : List ℕ) → length (restOf d s carry bytes) < longestOf d
 
 -- -- Values at the edges (paper 01; paper 02, (i) and (ii))
 
