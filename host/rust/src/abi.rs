@@ -1,5 +1,6 @@
 //! The libraries' answers in their C form (`host/include/vellanquor.h`), and what has that face.
 
+pub mod feeding;
 pub mod fields;
 
 use crate::judgement::{self, judge};

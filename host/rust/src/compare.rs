@@ -1,8 +1,9 @@
 //! A subject against the reader: judgements, readings, millimetres, and demand 3 on the subject's own answers; fields and
-//! commands in [`fields`].
+//! commands in [`fields`], the feeder in [`feeding`].
 //!
 //! Every run is fixed by its first seed. The first difference ends it and tells the seed and the bytes.
 
+pub mod feeding;
 pub mod fields;
 
 use std::collections::BTreeMap;

@@ -3,6 +3,7 @@
 
 #![allow(unsafe_code)]
 
+use crate::abi::feeding::{Fed, FeedSubject, Stream};
 use crate::abi::fields::{
     Command, DataFrame, ErrorFrame, FieldSubject, Header, Point, Record, StatusFrame, Step, TargetFrame, Written,
 };
@@ -16,6 +17,19 @@ extern "C" {
 extern "C" {
     fn vq_open_reading(dialect: u32, bytes: *const u8, count: usize, table: *mut u32, numbers: usize) -> Reading;
     fn vq_closed_reading(dialect: u32, bytes: *const u8, count: usize, table: *mut u32, numbers: usize) -> Reading;
+}
+
+extern "C" {
+    fn vq_feed(
+        dialect: u32,
+        stream: Stream,
+        carry: *mut u8,
+        room: usize,
+        bytes: *const u8,
+        count: usize,
+        table: *mut u32,
+        numbers: usize,
+    ) -> Fed;
 }
 
 extern "C" {
@@ -67,6 +81,17 @@ impl Subject for Gateway {
     fn closed_reading(&self, dialect: u32, bytes: &[u8], table: &mut [u32]) -> Reading {
         // SAFETY: the pointers and lengths are those of two slices, of which the second is ours to write.
         unsafe { vq_closed_reading(dialect, bytes.as_ptr(), bytes.len(), table.as_mut_ptr(), table.len()) }
+    }
+}
+
+impl FeedSubject for Gateway {
+    // Within its caller, since the speed tables count instructions.
+    #[inline]
+    fn feed(&self, dialect: u32, stream: Stream, carry: &mut [u8], bytes: &[u8], table: &mut [u32]) -> Fed {
+        let (place, room) = (carry.as_mut_ptr(), carry.len());
+        let (rows, numbers) = (table.as_mut_ptr(), table.len());
+        // SAFETY: the pointers and lengths are those of three slices, of which the carry and the table are ours to write.
+        unsafe { vq_feed(dialect, stream, place, room, bytes.as_ptr(), bytes.len(), rows, numbers) }
     }
 }
 

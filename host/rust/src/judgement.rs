@@ -76,11 +76,17 @@ pub fn judge(dialect: u32, bytes: &[u8], place: usize) -> Result<Judgement, Refu
 
 /// The refusals that the judgement and the readings share: 1, then 3.
 pub(crate) fn test_lent(dialect: u32, bytes: &[u8]) -> Result<(), Refusal> {
-    if !DIALECTS.contains(&dialect) {
-        return Err(UNKNOWN_DIALECT);
-    }
+    test_dialect(dialect)?;
     if bytes.len() > MAX_BYTES {
         return Err(TOO_MANY_BYTES);
+    }
+    Ok(())
+}
+
+/// 1 for a dialect that there is not.
+pub(crate) fn test_dialect(dialect: u32) -> Result<(), Refusal> {
+    if !DIALECTS.contains(&dialect) {
+        return Err(UNKNOWN_DIALECT);
     }
     Ok(())
 }

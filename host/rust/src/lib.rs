@@ -1,4 +1,4 @@
-//! A plain reader of the radar wires, written from paper 01 ("What gets built and its exact rules"), paper 02 (i) and (ii)
+//! A plain reader of the radar wires, written from paper 01 ("What gets built and its exact rules"), paper 02 (i) to (iii)
 //! and the makers' documents 000 to 004 alone. It is slow where slow is clearer, and it exists to be compared with.
 //!
 //! | Module | What it holds | Paper 01; paper 02 |
@@ -9,6 +9,7 @@
 //! | [`packet_rules`] | the judgement of packets, by the rules of a dialect | "The three wires" |
 //! | [`mmwave`], [`vital_signs`] | the rules of each packet dialect | "The three wires"; (i) |
 //! | [`reading`] | the open and the closed reading, the choice of two lines | "Two readings" |
+//! | [`feeder`] | bytes as the port gives them | (iii) |
 //! | [`numbers`] | dB, phase, accuracy, millimetres | "Numbers" |
 //! | [`sirad_fields`], [`packet`] | what a whole frame holds, and SiRad writing | "Fields"; (ii) |
 //! | [`demorad`] | command words, both ways | "DemoRad" |
@@ -16,7 +17,8 @@
 //!
 //! Beside the reader: [`generate`] makes captures from a seed, [`abi`] has the libraries' answers in their C form,
 //! [`compare`] runs any subject with that face against the reader, and `gateway` (there only if the libraries are
-//! linked) is them as such a subject; [`abi::fields`] and [`compare::fields`] are the same for fields and commands.
+//! linked) is them as such a subject; [`abi::fields`] and [`compare::fields`] are the same for fields and commands,
+//! [`abi::feeding`] and [`compare::feeding`] for the feeder.
 
 #![deny(unsafe_code)]
 #![warn(missing_docs)]
@@ -24,6 +26,7 @@
 pub mod abi;
 pub mod compare;
 pub mod demorad;
+pub mod feeder;
 #[cfg(gateway_linked)]
 pub mod gateway;
 pub mod generate;

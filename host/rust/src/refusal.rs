@@ -9,7 +9,7 @@ pub type Refusal = u32;
 pub const UNKNOWN_DIALECT: Refusal = 1;
 /// 2: a place beyond the length; equal is fine.
 pub const PLACE_BEYOND_LENGTH: Refusal = 2;
-/// 3: more than [`MAX_BYTES`] bytes lent.
+/// 3: more than [`MAX_BYTES`] bytes lent, or in a stream.
 pub const TOO_MANY_BYTES: Refusal = 3;
 /// 4: a listing program's input exceeds [`MAX_LISTING_BYTES`] bytes.
 pub const LISTING_TOO_LONG: Refusal = 4;
@@ -47,8 +47,14 @@ pub const TOO_MUCH_DATA: Refusal = 52;
 pub const UNKNOWN_KIND: Refusal = 53;
 /// 54: a target whose written block would be all `0`.
 pub const EMPTY_TARGET: Refusal = 54;
+/// 60: the bytes left waiting exceed the carry buffer.
+pub const CARRY_TOO_SHORT: Refusal = 60;
+/// 61: a call's frames exceed the row table.
+pub const TABLE_TOO_SHORT: Refusal = 61;
+/// 62: a stream counts more waiting bytes than the carry buffer holds.
+pub const TOO_MANY_WAITING: Refusal = 62;
 
-/// The most bytes that a judgement or a reading is lent.
+/// The most bytes that a judgement or a reading is lent, and that a stream has.
 pub const MAX_BYTES: usize = 1_048_576;
 /// The most bytes that a listing program reads.
 pub const MAX_LISTING_BYTES: usize = 65_536;
