@@ -9,11 +9,12 @@
  *
  * Each function tests what it is handed and answers bad input with a refusal number; nothing that the bytes hold stops or
  * harms it. Look at `refusal` first: it is 0 if there is an answer, and on a refusal every other number is 0 (but for
- * `next` of vq_step, where the place stays) and nothing is written.
+ * `next` of vq_step and `stream` of vq_feed, which stay as they were handed in) and nothing is written.
  *
  * What the caller sees to: `bytes` (`frame`, `packet`, `content`) points to `count` readable bytes, `table` to `numbers`
- * writable 32-bit numbers and `output` to `room` writable bytes that lie apart from them; none is a null pointer, also
- * where its size is 0. The functions keep no state and no pointer, so any number of threads may call them at once.
+ * writable 32-bit numbers, `output` and `carry` to `room` writable bytes; what is written lies apart from all else that is
+ * lent. None is a null pointer, also where its size is 0. The functions keep no state and no pointer, so any number of
+ * threads may call them at once.
  *
  * C99, and C++. All functions are in libvellanquor.a (host/archive.sh builds it), which needs no other library. It is built
  * for x86-64 Linux only.
@@ -33,7 +34,7 @@ extern "C" {
 #define VQ_MMWAVE 1u
 #define VQ_VITAL_SIGNS 2u
 
-/* The most bytes that one call is lent. */
+/* The most bytes that one call is lent, and that a stream has. */
 #define VQ_MAX_BYTES 1048576u
 
 /* Numbers in a table's row: the frame's place, its length, its kind. */
@@ -78,7 +79,7 @@ extern "C" {
 /* Refusals. */
 #define VQ_REFUSED_DIALECT 1u    /* a dialect other than 0, 1 and 2 */
 #define VQ_REFUSED_PLACE 2u      /* an offset beyond the count; equal is fine */
-#define VQ_REFUSED_SIZE 3u       /* more than VQ_MAX_BYTES bytes */
+#define VQ_REFUSED_SIZE 3u       /* more than VQ_MAX_BYTES bytes, or a stream of more */
 #define VQ_REFUSED_FRAME 5u      /* the bytes are not exactly one whole frame of the wanted kind */
 #define VQ_REFUSED_INDEX 6u      /* an index at or over the count, or no record starts at the place */
 #define VQ_REFUSED_NO_POINTS 7u  /* no record of type 1 */
@@ -96,6 +97,9 @@ extern "C" {
 #define VQ_REFUSED_DATA 52u      /* over 65,535 data characters */
 #define VQ_REFUSED_KIND 53u      /* a kind that has no data frame */
 #define VQ_REFUSED_EMPTY_TARGET 54u /* a target whose written block would be all `0`, which is an empty block */
+#define VQ_REFUSED_CARRY 60u     /* the bytes left waiting exceed the carry buffer */
+#define VQ_REFUSED_ROWS 61u      /* the call's frames exceed the row table */
+#define VQ_REFUSED_STREAM 62u    /* the stream counts more waiting bytes than the carry buffer holds */
 
 /*
  * The judgement on the bytes from `offset` on.
@@ -160,6 +164,48 @@ struct vq_reading vq_open_reading(uint32_t dialect, const uint8_t *bytes, size_t
  */
 struct vq_reading vq_closed_reading(uint32_t dialect, const uint8_t *bytes, size_t count, uint32_t *table,
                                     size_t numbers);
+
+/*
+ * The feeder, for bytes as a port gives them: none, some or many a call. It keeps the bytes that wait in a carry buffer that
+ * the caller lends, and a stream's state is handed in and answered by value. A call reads the waiting bytes and then the
+ * new ones as one: it writes a row (place, length, kind) for each frame, its place counted from the stream's start, and
+ * leaves the bytes that now wait at the carry's start. Table numbers behind the rows and carry bytes behind the waiting ones
+ * stay as they were. However a stream's bytes are cut into calls, the rows, joined, are those of vq_open_reading of all of
+ * them at once, and the stream stands at its `next`.
+ *
+ * Where a stream stands between two calls: the place of its first waiting byte, and how many bytes wait. Both are 0 before a
+ * stream's first call. Any numbers may be handed in: what 62 and 3 let pass is read.
+ */
+struct vq_stream {
+    uint64_t place;
+    uint64_t waiting;
+};
+
+/*
+ *   refusal  0, or 1, 62, 3, 61, 60: the first of them in this order that applies
+ *   rows     written to the table; 0 with a refusal
+ *   stream   for the next call; with a refusal as it was handed in
+ * A refusal changes neither the carry nor the table. What a host does after one:
+ *   60  it lends a larger carry, with the waiting bytes copied to its start, and makes the same call again. One of 65,550
+ *       bytes is never too small for SiRad, nor one of 32,767 for packets.
+ *   61  it makes the call again with a larger table, or with fewer of the bytes and then with the others; where one byte is
+ *       too many, with a larger table. One of (waiting + count) / 8 rows is never too small.
+ *   3   the stream is over: place, waiting and new bytes together are more than VQ_MAX_BYTES. A new one begins at place 0 with
+ *       the waiting bytes kept: it hands in {0, waiting} with the carry as it is, and adds the old place to the places
+ *       of the new stream's rows itself. Should waiting and new bytes alone be more, it feeds fewer.
+ * With a table of (waiting + count) / 8 rows and a carry as long as the longest frame (65,551 bytes; packets 32,768) each
+ * byte is judged once a call, else twice. A frame's bytes are no longer in the carry when its row is there: a host that
+ * reads fields keeps the bytes from `stream.place` on itself.
+ * A call needs up to about 140 KiB of stack. TODO: confirm this figure.
+ */
+struct vq_fed {
+    uint32_t refusal;
+    uint64_t rows;
+    struct vq_stream stream;
+};
+
+struct vq_fed vq_feed(uint32_t dialect, struct vq_stream stream, uint8_t *carry, size_t room, const uint8_t *bytes,
+                      size_t count, uint32_t *table, size_t numbers);
 
 /*
  * Fields. A reader takes bytes that are exactly one whole frame or packet, as a row of a reading names
