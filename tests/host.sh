@@ -1,13 +1,15 @@
 #!/usr/bin/env bash
-# The independent reader's own tests, the comparison of the library with it, and the C host's program with its rows
-# on the sample captures.
+# The independent reader's own tests, the comparison of the library with it, and the C host's programs with their rows
+# on the sample captures: the capture at once, and as a line that goes on.
 set -u
 cd "$(dirname "$0")/.." || exit 2
 built=$(mktemp -d) && trap 'rm -rf "$built"' EXIT
 library=$PWD/target/staticlib
 strict="-std=c99 -pedantic -Wall -Wextra -Werror"
 
-cc $strict -O2 -c host/c/gateway_demo.c -o "$built/gateway_demo.o" || { echo "host: gateway_demo.c"; exit 1; }
+for program in gateway_demo live_demo; do
+  cc $strict -O2 -c host/c/$program.c -o "$built/$program.o" || { echo "host: $program.c"; exit 1; }
+done
 printf '#include "vellanquor.h"\nint main() { return 0; }\n' >"$built/header.cc"
 if command -v c++ >/dev/null; then
   c++ -Wall -Wextra -Werror -Ihost/include -fsyntax-only "$built/header.cc" || { echo "host: vellanquor.h in C++"; exit 1; }
@@ -17,10 +19,69 @@ fi
 export VQ_LIB_DIR=$library
 (cd host/rust && cargo test --release --offline --quiet) || { echo "host: cargo test"; exit 1; }
 
-cc "$built/gateway_demo.o" "$library/libvellanquor.a" -o "$built/gateway_demo" || exit 1
+for program in gateway_demo live_demo; do
+  cc "$built/$program.o" "$library/libvellanquor.a" -o "$built/$program" || exit 1
+done
+cc -std=c11 -Wall -Wextra -Werror -shared -fPIC -o "$built/faults.so" tests/faults.c || exit 1
+
+# expect FILE WHAT: standard input is what the file holds.
+expect() { cmp - "$1" || { echo "host: live_demo $2"; false; }; }
+
+# live READS ARGUMENTS: the rows of a line whose reads are cut as faults.c says.
+live() { READ=$1 LD_PRELOAD=$built/faults.so "$built/live_demo" "${@:2}"; }
+
 for listing in captures/*.txt; do
   capture=${listing%.txt}.bin
   case $capture in *mmwave*) dialect=mmwave ;; *vital-signs*) dialect=vital-signs ;; *) dialect=sirad ;; esac
-  "$built/gateway_demo" "$dialect" "$capture" | grep -v -e '^point ' -e '^record' -e '^a line ' | cmp - "$listing" ||
-    { echo "host: gateway_demo on $capture"; exit 1; }
+  "$built/gateway_demo" "$dialect" "$capture" >"$built/read" || exit 1
+  grep -v -e '^point ' -e '^record' -e '^a line ' "$built/read" | cmp - "$listing" || { echo "host: gateway_demo on $capture"; exit 1; }
+  # A line that goes on has the rows before the place where it waits.
+  awk -F '\t' '/^kind/ { print } /^[A-Z]\t/ { row[++rows] = $0; place[rows] = $2 } /^end/ { end = $2 }
+    /^a line/ { sub(/.* /, ""); next_place = $0 + 0 }
+    END { for (i = 1; i <= rows; i++) if (place[i] < next_place) print row[i]
+          printf "waits\t%d\t%d\n", next_place, end - next_place }' "$built/read" >"$built/rows"
+  for reads in "" "1*99999" "7*99999" "intr 3 intr*5 300 1*40 intr 64*99999"; do
+    live "$reads" "$dialect" <"$capture" | expect "$built/rows" "on $capture in reads of '$reads'" || exit 1
+  done
 done
+
+# More frames at once than the first table has rows, and a line longer than a stream.
+awk 'BEGIN { for (i = 0; i < 130000; i++) printf "!E0000\r\n " }' >"$built/long"
+awk 'BEGIN { print "kind\tplace\tlength"; for (i = 0; i < 130000; i++) printf "E\t%d\t8\n", 9 * i
+             printf "waits\t%d\t0\n", 9 * 130000 }' >"$built/rows"
+"$built/live_demo" sirad "$built/long" | expect "$built/rows" "on 130,000 frames" || exit 1
+# A frame of the greatest size.
+{ printf '!RFFFF00000000'; head -c 65535 /dev/zero | tr '\0' Z; printf '\r\n?'; } >"$built/long"
+printf 'kind\tplace\tlength\nR\t0\t65551\nwaits\t65552\t0\n' >"$built/rows"
+live "1000*99" sirad <"$built/long" | expect "$built/rows" "on the longest frame" || exit 1
+# Six packets within one that is given up at its second record's type: one byte brings more rows than the table has.
+python3 - >"$built/long" <<'END'
+import struct, sys
+packet = lambda total, count, body: (bytes([2, 1, 4, 3, 6, 5, 8, 7]) + struct.pack("<8I", 1, total, 3, 4, 5, 0, count, 0) + body).ljust(total, b"\0")
+sys.stdout.buffer.write(packet(512, 2, struct.pack("<2I", 10, 6 * 64) + 6 * packet(64, 0, b"") + struct.pack("<I", 1)))
+END
+awk 'BEGIN { print "kind\tplace\tlength"; for (i = 0; i < 6; i++) printf "M\t%d\t64\n", 48 + 64 * i
+             printf "waits\t512\t0\n" }' >"$built/rows"
+live "1*999" mmwave <"$built/long" | expect "$built/rows" "on packets within a packet" || exit 1
+
+# A failed read is said behind the rows before it.
+if live "8 io" sirad <captures/listing-example.bin >"$built/read" 2>"$built/err" || [ ! -s "$built/err" ]; then
+  echo "host: live_demo after a failed read"
+  exit 1
+fi
+printf 'kind\tplace\tlength\nE\t0\t8\n' | expect "$built/read" "before a failed read" || exit 1
+
+# A row is printed as soon as its frame is whole, while the line goes on.
+mkfifo "$built/line"
+"$built/live_demo" sirad "$built/line" >"$built/read" &
+exec 3>"$built/line"
+printf '!E0000\r' >&3
+sleep 0.3
+! grep -q '^E' "$built/read" || { echo "host: live_demo prints a row before its frame is whole"; exit 1; }
+printf '\n!E00' >&3
+for try in $(seq 100); do grep -q '^E	0	8$' "$built/read" && break; sleep 0.1; done
+grep -q '^E	0	8$' "$built/read" || { echo "host: live_demo prints no row while the line goes on"; kill $!; exit 1; }
+exec 3>&-
+wait $! || { echo "host: live_demo at the end of a line"; exit 1; }
+printf 'kind\tplace\tlength\nE\t0\t8\nwaits\t8\t4\n' | expect "$built/read" "at the end of a line" || exit 1
+echo "host: the C host's programs agree"

@@ -9,9 +9,9 @@
 #include <stdint.h>
 #include <stdio.h>
 #include <stdlib.h>
-#include <string.h>
 
 #include "../include/vellanquor.h"
+#include "names.h"
 
 /* Rows of the table; a capture with more frames is read in several calls. */
 #define ROWS 64
@@ -26,19 +26,6 @@
 #define RECORD_HEADER 8
 #define POINT_SIZE 16
 #define TYPE_POINTS 1
-
-static char letter_of(uint32_t kind)
-{
-    static const char letters[] = "?RPCTUE";
-
-    if (kind == VQ_KIND_PACKET) {
-        return 'M';
-    }
-    if (kind == VQ_KIND_VITAL_SIGNS) {
-        return 'V';
-    }
-    return kind < sizeof letters - 1 ? letters[kind] : '?';
-}
 
 /* A number, least significant byte first. */
 static uint32_t number_at(const uint8_t *bytes, size_t place)
@@ -179,18 +166,6 @@ static void print_next(uint32_t dialect, const uint8_t *bytes, size_t count)
     if (reading.refusal == 0 && judgement.refusal == 0 && judgement.state == VQ_WAITING) {
         printf("a line that goes on waits at %lu\n", (unsigned long)start);
     }
-}
-
-/* The dialect of a name, or one that there is not. */
-static uint32_t dialect_of(const char *name)
-{
-    static const char *const names[] = {"sirad", "mmwave", "vital-signs"};
-    uint32_t dialect = VQ_SIRAD;
-
-    while (dialect <= VQ_VITAL_SIGNS && strcmp(name, names[dialect]) != 0) {
-        dialect++;
-    }
-    return dialect;
 }
 
 int main(int argc, char **argv)
