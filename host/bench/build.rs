@@ -1,4 +1,4 @@
-//! Compiles the reader in C with `cc -O3` (or the compiler that CC names) and tells whether the gateway library is there.
+//! Compiles the readers in C with `cc -O3` (or the compiler that CC names) and tells whether the gateway library is there.
 
 use std::env;
 use std::path::PathBuf;
@@ -14,14 +14,16 @@ fn main() {
     let out = PathBuf::from(env::var_os("OUT_DIR").expect("cargo sets OUT_DIR"));
     let compiler = env::var("CC").unwrap_or_else(|_| "cc".to_owned());
     let mut objects = Vec::new();
-    for name in ["reader", "measure"] {
+    for name in ["reader", "line", "measure"] {
         println!("cargo:rerun-if-changed={name}.c");
         let object = out.join(format!("{name}.o"));
         let flags = ["-std=c11", "-pedantic", "-Wall", "-Wextra", "-Werror", "-O3", "-fPIC", "-c"];
         run(Command::new(&compiler).args(flags).arg(format!("{name}.c")).arg("-o").arg(&object));
         objects.push(object);
     }
-    println!("cargo:rerun-if-changed=reader.h");
+    for header in ["reader.h", "judge.h"] {
+        println!("cargo:rerun-if-changed={header}");
+    }
     run(Command::new("ar").arg("crs").arg(out.join("libpeers.a")).args(&objects));
     println!("cargo:rustc-link-search=native={}", out.display());
     println!("cargo:rustc-link-lib=static=peers");

@@ -1,4 +1,4 @@
-/* A reader of the three dialects in plain C, for the speed table. */
+/* Readers of the three dialects in plain C, for the speed tables. */
 #ifndef READER_H
 #define READER_H
 
@@ -15,6 +15,12 @@ struct c_reading {
     size_t rows, skipped, next;
 };
 
+/* The bytes that wait, and the place of the first of them. */
+struct c_line {
+    size_t place, count;
+    uint8_t buffer[1 << 17];
+};
+
 struct c_millimetres {
     uint32_t refusal;
     int32_t value;
@@ -22,6 +28,9 @@ struct c_millimetres {
 
 struct c_reading c_closed_reading(uint32_t dialect, const uint8_t *bytes, size_t count, uint32_t *table,
                                   size_t numbers);
+/* The number of rows that the new bytes bring, or SIZE_MAX if the buffer or the table is too small. */
+size_t c_read_line(struct c_line *line, uint32_t dialect, const uint8_t *bytes, size_t count, uint32_t *table,
+                   size_t numbers);
 struct c_millimetres c_millimetres(uint32_t bits);
 
 #endif

@@ -1,5 +1,6 @@
 //! Instructions by callgrind: exact, whatever else the machine does. One process under callgrind runs every peer on every
-//! workload and size; collecting is on inside [`measured`] alone, and a mark behind each run writes its counts.
+//! workload and size, and every way to read a line; collecting is on inside the functions [`MEASURED`] alone, and a mark
+//! behind each run writes its counts.
 
 #![allow(unsafe_code)]
 
@@ -11,6 +12,7 @@ use std::path::Path;
 use std::process::{Command, Stdio};
 
 use crate::document::{put, short, Table};
+use crate::feeding;
 use crate::peers::{table_for, Peer};
 use crate::plot;
 use crate::workloads::{Task, WORKLOADS};
@@ -27,17 +29,21 @@ pub struct Count {
     functions: Vec<(String, u64)>,
 }
 
-/// Counts by workload, size and peer, each by its index.
+/// The functions inside which callgrind collects.
+const MEASURED: [&str; 2] = ["measured", "measured_line"];
+
+/// Counts by workload, size and peer, or by line, size of calls and way, each by its index.
 pub type Counts = HashMap<(usize, usize, usize), Count>;
 
-/// Runs itself under callgrind, puts the tables `counts`, `growth` and `functions`, and draws the plot.
+/// Runs itself under callgrind, puts the tables `counts`, `growth`, `functions` and `lines`, and draws the plot.
 pub fn measure(document: Option<&Path>, picture: Option<&Path>) {
     crate::agree();
     let directory = std::env::temp_dir().join(format!("radar-bench-{}", std::process::id()));
     fs::create_dir_all(&directory).expect("a directory for callgrind's files");
     let output = directory.join("counts");
     let status = Command::new("valgrind")
-        .args(["--tool=callgrind", "--toggle-collect=measured", "--quiet"])
+        .args(["--tool=callgrind", "--quiet"])
+        .args(MEASURED.map(|name| format!("--toggle-collect={name}")))
         .arg(format!("--callgrind-out-file={}", output.display()))
         .arg(std::env::current_exe().expect("the program's own path"))
         .arg("counted")
@@ -45,15 +51,18 @@ pub fn measure(document: Option<&Path>, picture: Option<&Path>) {
         .status()
         .expect("valgrind");
     assert!(status.success(), "valgrind: {status}");
-    let mut counts = Counts::new();
+    let (mut counts, mut lines) = (Counts::new(), Counts::new());
     for entry in fs::read_dir(&directory).expect("callgrind's files") {
         let text = fs::read(entry.expect("a file").path()).expect("a readable file");
-        counts.extend(parse(&String::from_utf8_lossy(&text)));
+        let text = String::from_utf8_lossy(&text);
+        counts.extend(parse("run", &text));
+        lines.extend(parse("line", &text));
     }
     fs::remove_dir_all(&directory).expect("callgrind's files can go");
     put(document, "counts", counts_table(&counts).text());
     put(document, "growth", growth_table(&counts).text());
     put(document, "functions", functions_table(&counts).text());
+    put(document, "lines", feeding::counts_table(&lines).text());
     if let Some(path) = picture {
         fs::write(path, plot::draw(&counts)).unwrap_or_else(|problem| panic!("{}: {problem}", path.display()));
     }
@@ -69,12 +78,18 @@ pub fn run_counted() {
                 // Outside the count, so that the dynamic linker has done its work.
                 black_box(peer.run(workload.task, &all[..64], &mut table));
                 black_box(measured(peer, workload.task, black_box(&all[..size]), &mut table));
-                let name = CString::new(format!("run {index} {step} {number}")).expect("no zero byte");
-                // SAFETY: the name is a C string.
-                assert_eq!(unsafe { mark_counts(name.as_ptr()) }, 1, "built without valgrind/callgrind.h");
+                mark(&format!("run {index} {step} {number}"));
             }
         }
     }
+    feeding::run_counted();
+}
+
+/// Writes what callgrind has counted under this name.
+pub fn mark(name: &str) {
+    let name = CString::new(name).expect("no zero byte");
+    // SAFETY: the name is a C string.
+    assert_eq!(unsafe { mark_counts(name.as_ptr()) }, 1, "built without valgrind/callgrind.h");
 }
 
 /// One peer on one workload of the greatest size, each by its name in the tables.
@@ -86,16 +101,18 @@ pub fn run_one(peer: &str, workload: &str) {
     println!("{:?}", measured(*peer, workload.task, black_box(&bytes), &mut table));
 }
 
-/// The function inside which callgrind collects.
+/// What callgrind collects of readings and conversions.
 #[no_mangle]
 #[inline(never)]
 pub fn measured(peer: Peer, task: Task, bytes: &[u8], table: &mut [u32]) -> (usize, usize) {
     peer.run(task, bytes, table)
 }
 
-/// One of callgrind's files: the run that its mark names, and the instructions of each function without its callees.
-fn parse(text: &str) -> Option<((usize, usize, usize), Count)> {
-    let mark = text.lines().find_map(|line| line.strip_prefix("desc: Trigger: Client Request: run "))?;
+/// One of callgrind's files: the run that its mark names, if it is of this kind, and the instructions of each function without
+/// its callees.
+fn parse(kind: &str, text: &str) -> Option<((usize, usize, usize), Count)> {
+    let mark = format!("desc: Trigger: Client Request: {kind} ");
+    let mark = text.lines().find_map(|line| line.strip_prefix(&mark))?;
     let key: Vec<usize> = mark.split_whitespace().map(|word| word.parse().expect("a number")).collect();
     let total = text.lines().find_map(|line| line.strip_prefix("totals: ")).expect("a total");
     let total = total.trim().parse().expect("a number");

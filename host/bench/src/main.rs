@@ -7,6 +7,7 @@
 
 mod counts;
 mod document;
+mod feeding;
 #[cfg(feature = "nom")]
 mod nom_reader;
 mod peers;
@@ -17,10 +18,12 @@ mod workloads;
 use std::path::PathBuf;
 
 const USAGE: &str = "usage: radar-bench agree | times [DOCUMENT] | counts [DOCUMENT PLOT] | one PEER WORKLOAD
-  agree   all readers on all workloads, 64 KiB to 1 MiB: the same rows and skipped bytes
+       radar-bench line WAY LINE CALL
+  agree   all readers on all workloads, 64 KiB to 1 MiB: the same rows and skipped bytes; all ways to read a line
   times   the ratios of the times on 1 MiB
   counts  the instructions by callgrind, from 64 KiB to 1 MiB, and their plot
-  one     one run on 1 MiB, to be looked at under callgrind with --toggle-collect=measured";
+  one     one run on 1 MiB, to be looked at under callgrind with --toggle-collect=measured
+  line    one line of 1 MiB in calls of CALL bytes, with --toggle-collect=measured_line";
 
 /// By doubling, up to the most bytes that one call is lent.
 const SIZES: [usize; 5] = [64 << 10, 128 << 10, 256 << 10, 512 << 10, 1 << 20];
@@ -36,6 +39,7 @@ fn main() {
         ["counts", document, plot] => counts::measure(Some(&PathBuf::from(document)), Some(&PathBuf::from(plot))),
         ["counted"] => counts::run_counted(),
         ["one", peer, workload] => counts::run_one(peer, workload),
+        ["line", way, line, call] => feeding::run_one(way, line, call),
         _ => {
             eprintln!("{USAGE}");
             std::process::exit(2);
@@ -50,4 +54,5 @@ fn agree() {
         }
     }
     println!("{} workloads: {} readers agree", workloads::WORKLOADS.len(), peers::Peer::ALL.len() - 1);
+    feeding::agree();
 }

@@ -7,18 +7,20 @@ use std::hint::black_box;
 use std::path::Path;
 
 use crate::document::{put, short, Table};
+use crate::feeding;
 use crate::peers::{demand_agreement, table_for, Peer};
 use crate::workloads::{Workload, WORKLOADS};
 
 const SIZE: usize = 1 << 20;
-const SERIES: usize = 5;
+/// The series of every table of times.
+pub const SERIES: usize = 5;
 const ROUNDS: usize = 21;
 
 extern "C" {
     fn cpu_nanoseconds() -> u64;
 }
 
-/// Measures all workloads in several series and puts the table `times`.
+/// Measures all workloads in several series and puts the table `times`, then that of the lines.
 pub fn measure(document: Option<&Path>) {
     let mut series: Vec<Vec<Vec<f64>>> = Vec::new();
     for index in 0..SERIES {
@@ -38,10 +40,11 @@ pub fn measure(document: Option<&Path>) {
         table.row(&cells);
     }
     put(document, "times", table.text());
+    feeding::measure_times(document);
 }
 
 /// The median and, in brackets, the least and the greatest.
-fn range(mut ratios: Vec<f64>) -> String {
+pub fn range(mut ratios: Vec<f64>) -> String {
     ratios.sort_by(f64::total_cmp);
     let (least, greatest) = (ratios[0], ratios[ratios.len() - 1]);
     format!("{} ({} to {})", short(median(ratios)), short(least), short(greatest))
@@ -57,21 +60,32 @@ fn measure_one(workload: &Workload) -> Vec<f64> {
         let time = |&peer: &Peer| if peer.can(workload.task) { time(peer, workload, &bytes, &mut table) } else { 1.0 };
         rounds.push(Peer::ALL.iter().map(time).collect());
     }
-    let over_first = |peer: usize| rounds.iter().map(|round| round[peer] / round[0]).collect();
+    medians(rounds)
+}
+
+/// Of rounds in which each takes its turn: the first one's median time, then for each other one the median of its time over
+/// the first's.
+pub fn medians(rounds: Vec<Vec<f64>>) -> Vec<f64> {
+    let over_first = |index: usize| rounds.iter().map(|round| round[index] / round[0]).collect();
     let mut answer = vec![median(rounds.iter().map(|round| round[0]).collect())];
-    answer.extend((1..Peer::ALL.len()).map(|peer| median(over_first(peer))));
+    answer.extend((1..rounds[0].len()).map(|index| median(over_first(index))));
     answer
 }
 
 fn time(peer: Peer, workload: &Workload, bytes: &[u8], table: &mut [u32]) -> f64 {
-    // SAFETY: it reads a clock.
-    let now = || unsafe { cpu_nanoseconds() };
-    let start = now();
+    let start = clock();
     black_box(peer.run(workload.task, black_box(bytes), black_box(table)));
-    (now() - start) as f64
+    (clock() - start) as f64
 }
 
-fn median(mut values: Vec<f64>) -> f64 {
+/// The process's own time in nanoseconds.
+pub fn clock() -> u64 {
+    // SAFETY: it reads a clock.
+    unsafe { cpu_nanoseconds() }
+}
+
+/// The value in the middle.
+pub fn median(mut values: Vec<f64>) -> f64 {
     values.sort_by(f64::total_cmp);
     values[values.len() / 2]
 }
