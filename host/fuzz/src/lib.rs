@@ -1,10 +1,13 @@
 //! What libFuzzer calls: the gateway library against the independent reader on one capture.
 //!
-//! Byte 0 of an input chooses the dialect, byte 1 the place of a split; the capture is the rest. Compared are the
-//! judgement at every place, both readings with tables of eight sizes, demand 3 at the split, each four bytes as the bits
-//! of a coordinate, and the field readers on every frame and on the capture. A difference is printed and ends the run, and
-//! libFuzzer keeps the input.
+//! Byte 0 of an input chooses the dialect, byte 1 the place of a split, bytes 2 to 7 where the feeder's calls are cut, bytes 8
+//! and 9 the sizes of its carry and table; the capture is the rest. Compared are the judgement at every place, both readings
+//! with tables of eight sizes, demand 3 at the split, each four bytes as the bits of a coordinate, the field readers on
+//! every frame and on the capture, and the feeder on the capture as a line and with made-up streams. A difference is printed
+//! and ends the run, and libFuzzer keeps the input.
 
+#[cfg(not(feature = "wrong"))]
+use radar_reference::compare::feeding::check_feeding;
 #[cfg(not(feature = "wrong"))]
 use radar_reference::compare::fields::check_fields;
 use radar_reference::compare::{check_capture, check_millimetres, check_split};
@@ -14,6 +17,9 @@ use radar_reference::gateway::Gateway as Tried;
 #[cfg(feature = "wrong")]
 use wrong::Wrong as Tried;
 
+/// The bytes before the capture.
+const CHOICES: usize = 10;
+
 /// The function that libFuzzer calls with each input.
 ///
 /// # Safety
@@ -21,26 +27,30 @@ use wrong::Wrong as Tried;
 /// `data` points to `size` readable bytes.
 #[no_mangle]
 pub unsafe extern "C" fn LLVMFuzzerTestOneInput(data: *const u8, size: usize) -> i32 {
-    if size >= 2 {
+    if size >= CHOICES {
         // SAFETY: what the caller promises.
         let input = unsafe { std::slice::from_raw_parts(data, size) };
-        let (first, capture) = input.split_at(2);
-        if let Err(what) = compare(u32::from(first[0] % 3), usize::from(first[1]), capture) {
-            panic!("{what}\n{} bytes: {capture:02x?}", capture.len());
+        let (choices, capture) = input.split_at(CHOICES);
+        if let Err(what) = compare(choices, capture) {
+            panic!("{what}\nchoices {choices:02x?}, {} bytes: {capture:02x?}", capture.len());
         }
     }
     0
 }
 
-fn compare(dialect: u32, part: usize, capture: &[u8]) -> Result<(), String> {
+fn compare(choices: &[u8], capture: &[u8]) -> Result<(), String> {
+    let dialect = u32::from(choices[0] % 3);
+    let places: Vec<usize> = choices[1..8].iter().map(|&part| capture.len() * usize::from(part) / 255).collect();
     for float in capture.chunks_exact(4) {
         check_millimetres(&Tried, u32::from_le_bytes([float[0], float[1], float[2], float[3]]))?;
     }
     check_capture(&Tried, dialect, capture)?;
     #[cfg(not(feature = "wrong"))]
     check_fields(&Tried, dialect, capture).map_err(|difference| difference.what)?;
+    #[cfg(not(feature = "wrong"))]
+    check_feeding(&Tried, dialect, capture, &places[1..], usize::from(choices[8]), usize::from(choices[9]))?;
     // Last, because it ends with judgements: libFuzzer tries the operands of the last comparisons.
-    check_split(&Tried, dialect, capture, capture.len() * part / 255)
+    check_split(&Tried, dialect, capture, places[0])
 }
 
 #[cfg(feature = "wrong")]
