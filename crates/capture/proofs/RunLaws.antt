@@ -7,9 +7,8 @@ use native.Mathlib.Omega.{arith}
 use native.Mathlib.Decide.{ℕ-discrete}
 use borrow.Author.Tests.{eq-eqb, ne-eqb}
 use lib.ListN.{length, take, drop}
-use lib.Seq.{drop-drop, drop-append-le, take-at}
+use lib.Seq.{drop-drop, drop-append-le}
 use Rattle.digits.specs.Stores.{stored}
-use Rattle.digits.proofs.StoreLaws.{stored-start}
 use Rattle.form.specs.declared.Judgement.the-variants.{Waiting}
 use Rattle.reading.specs.Answers.{roomIn}
 use Rattle.reading.specs.Reading.{read, flat, rowWidth}
@@ -26,6 +25,7 @@ use Rattle.capture.specs.declared.Asked.the-variants.{Known, Unknown}
 use Rattle.capture.specs.declared.Dialect.{Dialect}
 use Rattle.capture.specs.declared.Fed.{Fed}
 use Rattle.capture.specs.declared.Stream.{Stream}
+use Rattle.capture.proofs.CarryLaws.{first-stored}
 use Rattle.capture.proofs.FeedLaws.{Fits, exactly-0}
 use Rattle.capture.proofs.Wires.{lawful-of}
 
@@ -97,10 +97,6 @@ unfolding flat
 flat-append [] ws = refl
 flat-append (v ∷ vs) ws = rw (flat-append vs ws)
 
--- what lies at the start
-first-of : (l bs : List ℕ) → length bs ≤ length l → take (length bs) (stored l 0 bs) ≡ bs
-first-of l bs h = rw (stored-start l bs h) (take-at bs _ (length bs) refl)
-
 going-start : (d : Dialect) (carry : List ℕ) → Going d (fresh 0) carry [] []
 unfolding openFrom read flat
 going-start d carry = record { rows = refl; offset = refl; waiting = refl; carried = refl }
@@ -161,10 +157,10 @@ module _ (d : Dialect) (s : Stream) (carry bs numbers : List ℕ) (g : Going d s
         let h : length (flat ws) ≤ length table = omega arith in
         let q : rowWidth * length ws ≡ length (flat ws) = omega arith in
         rw (a .answer) (record {
-          rows = rw (whole, flat-append (openFrom (judgeOf d) 0 bs .rows) ws, ← g .rows, a .laid, q, first-of table (flat ws) h);
+          rows = rw (whole, flat-append (openFrom (judgeOf d) 0 bs .rows) ws, ← g .rows, a .laid, q, first-stored table (flat ws) h);
           offset = rw whole;
           waiting = ap length rest-is;
-          carried = rw (a .kept, first-of carry (restOf d s carry bytes) (a .fits .rest)) rest-is;
+          carried = rw (a .kept, first-stored carry (restOf d s carry bytes) (a .fits .rest)) rest-is;
         })
 
 pub going : (dialect : ℕ) (d : Dialect) → dialectOf dialect ≡ Known d → {s : Stream} {carry bs numbers : List ℕ}
