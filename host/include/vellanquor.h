@@ -16,8 +16,8 @@
  * lent. None is a null pointer, also where its size is 0. The functions keep no state and no pointer, so any number of
  * threads may call them at once.
  *
- * C99, and C++. All functions are in libvellanquor.a (host/archive.sh builds it), which needs no other library. It is built
- * for x86-64 Linux only.
+ * C99, and C++. All functions are in libvellanquor.a (host/archive.sh builds it), which needs no library but the C library's
+ * memcpy and memset. It is built for x86-64 Linux only.
  */
 #ifndef VELLANQUOR_H
 #define VELLANQUOR_H
@@ -196,7 +196,7 @@ struct vq_stream {
  * With a table of (waiting + count) / 8 rows and a carry as long as the longest frame (65,551 bytes; packets 32,768) each
  * byte is judged once a call, else twice. A frame's bytes are no longer in the carry when its row is there: a host that
  * reads fields keeps the bytes from `stream.place` on itself.
- * A call needs up to about 140 KiB of stack. TODO: confirm this figure.
+ * A call needs up to 140 KiB of stack.
  */
 struct vq_fed {
     uint32_t refusal;

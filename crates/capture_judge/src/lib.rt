@@ -8,10 +8,12 @@ pub use capture_dialects::number_of;
 pub use capture_dialects::start_byte;
 use form::Judgement;
 ghost use mathlib.Core.Path.{_≡_};
+ghost use Prim.Native.Nat.{_+_};
+ghost use lib.Dec.{ltb};
 ghost use lib.ListN.{drop};
 ghost use Rattle.capture.specs.Dialects.{formOf, judgeOf};
 ghost use Rattle.form.specs.Numbers.{Judges};
-ghost use Rattle.capture.specs.Entries.{verdict, JudgesAt};
+ghost use Rattle.capture.specs.Entries.{maxBytes, verdict, JudgesAt};
 
 // The most bytes that are read at once.
 pub const MAX_BYTES: usize = 1048576;
@@ -22,6 +24,21 @@ pub const UNKNOWN_DIALECT: u32 = 1;
 pub const BEYOND_END: u32 = 2;
 
 pub const TOO_MANY_BYTES: u32 = 3;
+
+// Whether a stream of so many bytes, `front` and `back` behind the first `offset`, is over the size limit; no sum can overflow.
+// `too_long(1048576, 0, 0)` is false, `too_long(1048576, 0, 1)` true.
+pub fn too_long(offset: usize, front: usize, back: usize) -> bool
+    ensures { λ r. ⌜ r ≡ ltb maxBytes (offset + front + back) ⌝ }
+{
+    if MAX_BYTES < offset {
+        return true;
+    }
+    let left = MAX_BYTES - offset;
+    if left < front {
+        return true;
+    }
+    left - front < back
+}
 
 fn judge_part(bytes: &[u8], d: Dialect) -> Judgement
     ensures { λ r. ⌜ r ≡ judgeOf d (now (bytes .entry)) ⌝ }
