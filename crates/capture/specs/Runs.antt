@@ -16,8 +16,7 @@ abbrev pub fresh : ℕ → Stream
 fresh waiting = record { offset = 0; waiting = waiting }
 
 -- a stream fed call by call, of which the accepted calls name one dialect: the state and the carry buffer now, the new bytes of the
--- accepted
--- calls, joined, and the numbers of their rows, joined. Each call gets state and carry as the feeder left them
+-- accepted calls, joined, and the numbers of their rows, joined. Each call gets state and carry as the feeder left them
 pub data Run (dialect : ℕ) : Stream → List ℕ → List ℕ → List ℕ → Type 0 where
   -- before the first call
   start : {carry : List ℕ} → Run dialect (fresh 0) carry [] []
@@ -36,9 +35,8 @@ pub data Run (dialect : ℕ) : Stream → List ℕ → List ℕ → List ℕ →
   again : {s : Stream} {carry bs numbers : List ℕ} → Run dialect s carry bs numbers
       → Run dialect (fresh (s .waiting)) carry (take (s .waiting) carry) []
 
--- the stream's bytes at once: its rows' numbers are those of their open reading with room for them, its state is that reading's next place
--- and
--- how many bytes are left from there on, and these lie at the carry's start
+-- the stream's bytes at once: its rows' numbers are those of their open reading with room for them, its state is that reading's next
+-- place and how many bytes are left from there on, and these lie at the carry's start
 pub record AsOne (d : Dialect) (s : Stream) (carry bs numbers : List ℕ) : Type 0 where
   pub rows : (room : ℕ) → length (reading (judgeOf d) false (length bs) bs .rows) ≤ room
       → numbers ≡ flat (reading (judgeOf d) false room bs .rows)
