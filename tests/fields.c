@@ -15,6 +15,9 @@ _Static_assert(offsetof(struct vq_target, distance) == 2 && offsetof(struct vq_t
                    offsetof(struct vq_target, phase) == 6 && offsetof(struct vq_target_frame, targets) == 6,
                "offsets of a target");
 
+/* Both editions, and numbers that are none. */
+static const uint32_t editions[] = {VQ_EDITION_1, VQ_EDITION_2, 0, 3, 257, UINT32_MAX};
+
 static uint8_t output[240];
 
 /* The writer's answer, and the output: `.` for each byte that stays 7. */
@@ -78,10 +81,11 @@ static void empty_blocks(void)
     targets("with a broken block", frame, sizeof frame);
 }
 
-static void status(const char *what, const uint8_t *frame, size_t count)
+static void status(const char *what, uint32_t edition, const uint8_t *frame, size_t count)
 {
-    struct vq_status_frame f = vq_read_status(frame, count);
-    printf("status %s: %" PRIu32 " %u %u %u %u %u %u %u %u\n", what, f.refusal, f.format, f.gain, f.accuracy, f.accuracy_mm, f.max_range, f.ramp_time, f.bandwidth, f.time_difference);
+    struct vq_status_frame f = vq_read_status(edition, frame, count);
+    printf("status %s, edition %" PRIu32 ": %" PRIu32 " %u %u", what, edition, f.refusal, f.format, f.gain);
+    printf(" %u %u %u %u %u %u\n", f.accuracy, f.accuracy_mm, f.max_range, f.ramp_time, f.bandwidth, f.time_difference);
 }
 
 static void error(const char *what, const uint8_t *frame, size_t count)
@@ -114,8 +118,15 @@ static void sirad(void)
     written("write targets, number 16", vq_write_targets(output, 229, f), 20);
     empty_blocks();
 
-    status("of kind 5", TEXT("!U5Z0205FFFF00000A0B0001\r\n"));
-    status("of kind 6", TEXT("!E0000\r\n"));
+    for (size_t i = 0; i < sizeof editions / sizeof editions[0]; i++) {
+        status("of 5 tenths", editions[i], TEXT("!U5Z0005FFFF00000A0B0001\r\n"));
+        status("of 15 tenths", editions[i], TEXT("!U5Z000FFFFF00000A0B0001\r\n"));
+        status("of 25 tenths", editions[i], TEXT("!U5Z0019FFFF00000A0B0001\r\n"));
+        status("of 35 tenths", editions[i], TEXT("!U5Z0023FFFF00000A0B0001\r\n"));
+        status("of 517 tenths", editions[i], TEXT("!U5Z0205FFFF00000A0B0001\r\n"));
+        status("cut", editions[i], TEXT("!U5Z0205FFFF00000A0B0001\r"));
+        status("of kind 6", editions[i], TEXT("!E0000\r\n"));
+    }
     written("write status", vq_write_status(output, sizeof output, 5, 'Z', 0x205, 0xFFFF, 0, 0xA0B, 1), 30);
     written("write status, gain 255", vq_write_status(output, sizeof output, 5, 255, 0x205, 0xFFFF, 0, 0xA0B, 1), 30);
 
@@ -141,9 +152,13 @@ static void step(const char *what, struct vq_step s)
     printf("step %s: %" PRIu32 " %" PRIu32 " %" PRIu64 " %" PRIu64 " %" PRIu64 "\n", what, s.refusal, s.tag, s.start, s.length, s.next);
 }
 
-static void point(const char *what, struct vq_point p)
+static void point(const char *what, const uint8_t *packet, size_t count, size_t index)
 {
-    printf("point %s: %" PRIu32 " %" PRId32 " %" PRId32 " %" PRId32 " %08" PRIX32 "\n", what, p.refusal, p.x, p.y, p.z, p.doppler);
+    for (size_t i = 0; i < sizeof editions / sizeof editions[0]; i++) {
+        struct vq_point p = vq_point(editions[i], packet, count, index);
+        printf("point %s, edition %" PRIu32 ": %" PRIu32, what, editions[i], p.refusal);
+        printf(" %" PRId32 " %" PRId32 " %" PRId32 " %08" PRIX32 "\n", p.x, p.y, p.z, p.doppler);
+    }
 }
 
 static void header(const char *what, struct vq_header h)
@@ -151,37 +166,43 @@ static void header(const char *what, struct vq_header h)
     printf("header %s: %" PRIu32 " %08" PRIX32 " %" PRIu32 " %" PRIX32 " %" PRIu32 " %" PRIu32 " %" PRIu32 " %" PRIu32 " %" PRIu32 "\n", what, h.refusal, h.version, h.total, h.platform, h.frame, h.time, h.objects, h.records, h.subframe);
 }
 
-/* 96 bytes: a record of type 77 with three bytes, and two points behind it. */
+/* 160 bytes: a record of type 77 with three bytes, and five points behind it: halves, too far, good, infinite and too far. */
 static void mmwave(void)
 {
-    static const uint32_t numbers[8] = {0x03060001, 96, 0xA6843, 7, 99, 2, 2, 3};
+    static const uint32_t numbers[8] = {0x03060001, 160, 0xA6843, 7, 99, 5, 2, 3};
     static const uint32_t first[2] = {77, 3};
-    static const uint32_t points[8] = {1, 32, 0x3D800000, 0xBD800000, 0x447A0000, 0xFFFFFFFF, 0x3F800000, 0x447A0001};
-    uint8_t packet[96] = {2, 1, 4, 3, 6, 5, 8, 7};
+    static const uint32_t points[22] = {1,          80,         0x3D800000, 0xBD800000, 0x447A0000, 0xFFFFFFFF, 0x3F800000, 0x447A0001,
+                                        0,          0,          0x3E400000, 0xBE400000, 0xBEA00000, 0x12345678, 0x3D800000, 0x3D800000,
+                                        0xFF800000, 0x447A0001, 0xC47A0001, 0x7F800000, 0,          0};
+    uint8_t packet[160] = {2, 1, 4, 3, 6, 5, 8, 7};
     for (int i = 0; i < 8; i++)
         put(packet + 8 + 4 * i, numbers[i]);
     for (int i = 0; i < 2; i++)
         put(packet + 40 + 4 * i, first[i]);
-    for (int i = 0; i < 8; i++)
+    for (int i = 0; i < 22; i++)
         put(packet + 51 + 4 * i, points[i]);
 
-    header("of 96 bytes", vq_header(16, packet, 96));
-    header("of 95 bytes", vq_header(16, packet, 95));
-    header("of kind 17", vq_header(17, packet, 96));
-    record("0", vq_record(16, packet, 96, 0));
-    record("1", vq_record(16, packet, 96, 1));
-    record("2", vq_record(16, packet, 96, 2));
-    record("0 of a cut packet", vq_record(16, packet, 95, 0));
-    step("at 40", vq_step(16, packet, 96, 40));
-    step("at 51", vq_step(16, packet, 96, 51));
-    step("at 91", vq_step(16, packet, 96, 91));
-    step("at 40 of a cut packet", vq_step(16, packet, 95, 40));
-    point("0", vq_point(packet, 96, 0));
-    point("1", vq_point(packet, 96, 1));
-    point("2", vq_point(packet, 96, 2));
+    header("of 160 bytes", vq_header(16, packet, 160));
+    header("of 159 bytes", vq_header(16, packet, 159));
+    header("of kind 17", vq_header(17, packet, 160));
+    record("0", vq_record(16, packet, 160, 0));
+    record("1", vq_record(16, packet, 160, 1));
+    record("2", vq_record(16, packet, 160, 2));
+    record("0 of a cut packet", vq_record(16, packet, 159, 0));
+    step("at 40", vq_step(16, packet, 160, 40));
+    step("at 51", vq_step(16, packet, 160, 51));
+    step("at 139", vq_step(16, packet, 160, 139));
+    step("at 40 of a cut packet", vq_step(16, packet, 159, 40));
+    point("0", packet, 160, 0);
+    point("1", packet, 160, 1);
+    point("2", packet, 160, 2);
+    point("3", packet, 160, 3);
+    point("4", packet, 160, 4);
+    point("5", packet, 160, 5);
     packet[51] = 10;
-    point("0 of a packet without points", vq_point(packet, 96, 0));
-    point("0 of a cut packet", vq_point(packet, 95, 0));
+    point("0 of a packet without points", packet, 160, 0);
+    point("5 of a packet without points", packet, 160, 5);
+    point("0 of a cut packet", packet, 159, 0);
 }
 
 /* 140 bytes: records of types 1, 2, 3 and 4 with 24, 8, 16 and 20 bytes; then 64 bytes that are a packet of both dialects. */
@@ -209,7 +230,7 @@ static void vital_signs(void)
     step("at 140 of vital signs", vq_step(17, packet, 140, 140));
     step("at 48 of vital signs", vq_step(17, packet, 140, 48));
     step("at 40 of cut vital signs", vq_step(17, packet, 139, 40));
-    point("0 of vital signs", vq_point(packet, 140, 0));
+    point("0 of vital signs", packet, 140, 0);
     for (size_t i = 0; i < sizeof others / sizeof others[0]; i++) {
         char what[40];
         snprintf(what, sizeof what, "of kind %" PRIu32, others[i]);
@@ -224,7 +245,7 @@ static void vital_signs(void)
         record("of both kinds", vq_record(kind, packet, 64, 0));
         step("of both kinds", vq_step(kind, packet, 64, 40));
     }
-    point("of both kinds", vq_point(packet, 64, 0));
+    point("of both kinds", packet, 64, 0);
 }
 
 static void command(const char *what, const uint8_t *bytes, size_t count)

@@ -15,10 +15,27 @@ static void judge(const char *what, uint32_t dialect, const void *bytes, size_t 
     printf("judge %s: %" PRIu32 " %" PRIu32 " %" PRIu32 " %" PRIu32 " %" PRIu64 "\n", what, j.refusal, j.state, j.kind, j.reason, j.length);
 }
 
-static void convert(uint32_t bits)
+static void convert(uint32_t edition, uint32_t bits)
 {
-    struct vq_millimetres m = vq_millimetres(bits);
-    printf("millimetres %08" PRIX32 ": %" PRIu32 " %" PRId32 "\n", bits, m.refusal, m.value);
+    struct vq_millimetres m = vq_millimetres(edition, bits);
+    printf("millimetres %08" PRIX32 ", edition %" PRIu32 ": %" PRIu32 " %" PRId32 "\n", bits, edition, m.refusal, m.value);
+}
+
+/* Halves, floats beside them, a zero, the limit and what is refused, by both editions; then by numbers that are none. */
+static void millimetres(void)
+{
+    static const uint32_t floats[] = {0x3D800000, 0xBD800000, 0x3E400000, 0xBE400000, 0x3EA00000, 0xBEA00000,
+                                      0x3D7FFFFF, 0x3D800001, 0x3E3FFFFF, 0x3E400001, 0x4479F400, 0xC479F400,
+                                      0x80000000, 0x447A0000, 0xC47A0000, 0x447A0001, 0x7F800000};
+    static const uint32_t none[] = {0, 3, 4, 255, 257, 0x80000002, UINT32_MAX};
+    for (uint32_t edition = VQ_EDITION_1; edition <= VQ_EDITION_2; edition++)
+        for (size_t i = 0; i < sizeof floats / sizeof floats[0]; i++)
+            convert(edition, floats[i]);
+    for (size_t i = 0; i < sizeof none / sizeof none[0]; i++) {
+        convert(none[i], 0x3D800000);
+        convert(none[i], 0x447A0001);
+        convert(none[i], 0x7F800000);
+    }
 }
 
 static void read_both(const char *what, uint32_t dialect, const void *bytes, size_t count, size_t numbers)
@@ -131,13 +148,7 @@ int main(void)
     judge("too many bytes", 0, large, sizeof large, 0);
     judge("many bytes", 0, large, sizeof large - 1, sizeof large - 3);
 
-    convert(0x3D800000);
-    convert(0xBD800000);
-    convert(0x80000000);
-    convert(0x447A0000);
-    convert(0xC47A0000);
-    convert(0x447A0001);
-    convert(0x7F800000);
+    millimetres();
 
     read_both("capture", 0, capture, 29, 12);
     read_both("one row", 0, capture, 29, 5);

@@ -36,7 +36,7 @@ static uint32_t number_at(const uint8_t *bytes, size_t place)
 
 static void print_coordinate(uint32_t bits)
 {
-    const struct vq_millimetres answer = vq_millimetres(bits);
+    const struct vq_millimetres answer = vq_millimetres(VQ_EDITION_1, bits);
 
     if (answer.refusal != 0) {
         printf("\trefused %lu", (unsigned long)answer.refusal);

@@ -40,6 +40,10 @@ extern "C" {
 /* Numbers in a table's row: the frame's place, its length, its kind. */
 #define VQ_ROW 3u
 
+/* Editions of the millimetre rule; they differ only at exact halves. */
+#define VQ_EDITION_1 1u /* halves away from zero */
+#define VQ_EDITION_2 2u /* halves to the even neighbour */
+
 /* Kinds. */
 #define VQ_KIND_RANGE 1u        /* SiRad R: magnitudes, 16 bytes and one for each data character */
 #define VQ_KIND_PHASE 2u        /* SiRad P: phases, likewise */
@@ -85,6 +89,7 @@ extern "C" {
 #define VQ_REFUSED_NO_POINTS 7u  /* no record of type 1 */
 #define VQ_REFUSED_NOT_FINITE 30u /* the float is infinite or no number */
 #define VQ_REFUSED_TOO_FAR 31u   /* the float's magnitude is over 1000 m */
+#define VQ_REFUSED_EDITION 32u   /* an edition other than 1 and 2 */
 #define VQ_REFUSED_NO_HEADER 40u /* a command of under 4 bytes */
 #define VQ_REFUSED_REST_BIT 41u  /* a rest bit of the header word is set */
 #define VQ_REFUSED_NO_LENGTH 42u /* a command length of 0 */
@@ -122,8 +127,8 @@ struct vq_judgement vq_judge(uint32_t dialect, const uint8_t *bytes, size_t coun
 
 /*
  * A coordinate in millimetres, from the 32 bits of a float in metres: the whole number nearest to 1000 times its exact
- * value, halves away from zero.
- *   refusal  0, or 30, or 31
+ * value, halves by the edition: 0.0625 m is 63 in edition 1 and 62 in edition 2, and -0.0625 m is -63 and -62.
+ *   refusal  0, or 32, then 30 or 31
  *   value    -1000000 to 1000000
  */
 struct vq_millimetres {
@@ -131,7 +136,7 @@ struct vq_millimetres {
     int32_t value;
 };
 
-struct vq_millimetres vq_millimetres(uint32_t bits);
+struct vq_millimetres vq_millimetres(uint32_t edition, uint32_t bits);
 
 /*
  * A reading from the first byte on. It writes a row (place, length, kind) for each frame and goes on behind it; at any
@@ -260,8 +265,9 @@ struct vq_target_frame vq_read_targets(const uint8_t *frame, size_t count);
 struct vq_written vq_write_targets(uint8_t *output, size_t room, struct vq_target_frame frame);
 
 /*
- * A U frame, 26 bytes. The accuracy is in tenths of a millimetre, as sent, and in whole millimetres, halves up.
- *   refusal  0, or 5; in writing 0, or 50, 51
+ * A U frame, 26 bytes. The accuracy is in tenths of a millimetre, as sent, and in whole millimetres, halves by the edition: 5
+ * tenths are 1 in edition 1 and 0 in edition 2. Writing takes the tenths, and no edition.
+ *   refusal  0, or 5, 32; in writing 0, or 50, 51
  */
 struct vq_status_frame {
     uint32_t refusal;
@@ -275,7 +281,7 @@ struct vq_status_frame {
     uint16_t time_difference;
 };
 
-struct vq_status_frame vq_read_status(const uint8_t *frame, size_t count);
+struct vq_status_frame vq_read_status(uint32_t edition, const uint8_t *frame, size_t count);
 struct vq_written vq_write_status(uint8_t *output, size_t room, uint8_t format, uint8_t gain, uint16_t accuracy,
                                   uint16_t max_range, uint16_t ramp_time, uint16_t bandwidth,
                                   uint16_t time_difference);
@@ -341,9 +347,9 @@ struct vq_step {
 struct vq_step vq_step(uint32_t kind, const uint8_t *packet, size_t count, size_t place);
 
 /*
- * Point `index` of an mmWave packet's first record of type 1: X, Y and Z in millimetres, and the 32 bits of the Doppler
- * velocity.
- *   refusal  0, or 5, 7, 6, then 30 or 31 of the first coordinate that has one
+ * Point `index` of an mmWave packet's first record of type 1: X, Y and Z in millimetres by the edition, as vq_millimetres gives
+ * them, and the 32 bits of the Doppler velocity.
+ *   refusal  0, or 5, 7, 6, 32, then 30 or 31 of the first coordinate that has one
  */
 struct vq_point {
     uint32_t refusal;
@@ -353,7 +359,7 @@ struct vq_point {
     uint32_t doppler;
 };
 
-struct vq_point vq_point(const uint8_t *packet, size_t count, size_t index);
+struct vq_point vq_point(uint32_t edition, const uint8_t *packet, size_t count, size_t index);
 
 /*
  * A DemoRad command: the bytes are exactly one command. Words behind the count are 0 in reading; writing ignores them,

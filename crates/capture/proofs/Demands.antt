@@ -1,5 +1,5 @@
--- The proofs of specs/Demands.antt. Each brings a theorem of `form`, of a wire or of `reading` to the entries' answers, within the size
--- limit.
+-- The proofs of specs/Demands.antt. Each brings a theorem of `form`, of a wire, of `reading` or of `units` to the entries' answers, within
+-- the size limit.
 use mathlib.Core.Bool.{Bool, true, false}
 use mathlib.Core.Path.{_≡_, refl, sym, ap, _∙_}
 use mathlib.Core.List.{List, [], _∷_, _++_}
@@ -52,7 +52,8 @@ use Rattle.mmwave.proofs.VitalSays as vital
 use Rattle.mmwave.proofs.Dialects.{sound-of, says-of}
 use Rattle.units.specs.Float.{significand, scale}
 use Rattle.units.specs.Rounding.{nearest}
-use Rattle.units.specs.Units.{decibels, centidegrees, millimetres}
+use Rattle.units.specs.Units.{decibels, centidegrees, tiesOf, accuracyMillimetres, coordinate, millimetres}
+use Rattle.units.proofs.Theorems as units
 use Rattle.capture.specs.Demands as say
 use Rattle.capture.specs.Demands.{StandsIn, judgedAt, EndsInsideField}
 use Rattle.capture.specs.Dialects.{dialectOf, formOf, judgeOf, startOf}
@@ -416,12 +417,32 @@ pub carry-enough : say.CarryEnough
 unfolding restOf callReading
 carry-enough d s carry bytes = waiting-short d _ (stopped (judgeOf d) (lawful-of d) (s .offset) (inCall s carry bytes) .waits)
 
+-- -- Millimetres
+
+pub millimetres-refuse-only : say.MillimetresRefuseOnly
+millimetres-refuse-only = units.millimetres-0
+
+pub no-edition-first : say.NoEditionFirst
+no-edition-first = units.millimetres-32
+
+pub millimetres-nearest : say.MillimetresNearest
+millimetres-nearest = units.millimetres-nearest
+
+pub accuracy-nearest : say.AccuracyNearest
+accuracy-nearest = units.accuracy-nearest
+
+pub editions-differ : say.EditionsDiffer
+editions-differ = units.millimetres-editions
+
+pub accuracies-differ : say.AccuraciesDiffer
+accuracies-differ = units.accuracy-editions
+
 -- -- Values at the edges
 
 pub edges-hold : say.EdgesHold
 unfolding edges formOf profileOf toLittle fromLittle digit _>>=_ judge marker free frees countOk fits possible typeOk lengthOk
     magic entry last records counted packet mmWave totalLegal perObject payloadRule sirad body number row run
-    characters millimetres decibels centidegrees significand scale nearest
+    characters millimetres coordinate accuracyMillimetres tiesOf decibels centidegrees significand scale nearest
 edges-hold = refl
 
 pub vital-edges-hold : say.VitalEdgesHold

@@ -1,13 +1,15 @@
--- The front door: what is proved of captures, in the words of the demands and of paper 01.
+-- The front door: what is proved of captures and of millimetres, in the words of the demands and of the papers.
 -- Each definition below is a proposition under its words; its proof has the same name in small letters, in proofs/Demands.antt.
 -- `judge_at` promises that its answer is `verdict`, the readings that theirs are `readAnswer` and that they leave `readLeaves` in the
--- table, the choice of lines that its part is `partOf` (and, `RefersTo`, that the reference is to that part), the feeder what `Feeds` says:
--- so what is said of these is said of the answers. Lists hold any numbers; `Bytes` says that each is below 256 where a theorem needs it.
+-- table, the choice of lines that its part is `partOf` (and, `RefersTo`, that the reference is to that part), the feeder what `Feeds` says,
+-- the number rules that their answers are `millimetres` and `accuracyMillimetres`: so what is said of these is said of the answers.
+-- Lists hold any numbers; `Bytes` says that each is below 256 where a theorem needs it.
 use mathlib.Core.Bool.{Bool, true, false}
 use mathlib.Core.Path.{_≡_}
 use mathlib.Core.List.{List, [], _∷_, _++_, map}
-use mathlib.Core.Logic.{_↔_}
-use Prim.Native.Nat.{ℕ, _+_, _*_, _%_, _<_, _≤_}
+use mathlib.Core.Logic.{_↔_, _⊎_}
+use Prim.Native.Nat.{ℕ, suc, _+_, _*_, _%_, _^_, _<_, _≤_}
+use lib.IntN.{ℤ, pos}
 use lib.ListN.{length, drop}
 use Rattle.digits.specs.Bytes.{Bytes}
 use Rattle.digits.specs.LittleEndian.{littleAt}
@@ -26,6 +28,9 @@ use Rattle.mmwave.specs.declared.PacketDialect.{PacketDialect}
 use Rattle.mmwave.specs.Packet.{packet}
 use Rattle.mmwave.specs.Paper.{vitalSays, Packet, EndsInField}
 use Rattle.mmwave.specs.Dialects.{profileOf, sentencesOf}
+use Rattle.units.specs.Float.{negative, exponent, magnitude}
+use Rattle.units.specs.Rounding.{signed, Half, Rounds}
+use Rattle.units.specs.Units.{value, Edition, tiesOf, accuracyMillimetres, RoundsMillimetres, HalfMillimetre, millimetres}
 use Rattle.capture.specs.Dialects.{dialectOf, formOf, judgeOf, longestOf}
 use Rattle.capture.specs.Edges.{Line, resultOf, edges, vitalEdges, blockEdges}
 use Rattle.capture.specs.Entries.{maxBytes, verdict, verdictNumbers, readAnswer, readLeaves}
@@ -77,6 +82,16 @@ abbrev pub ReadingRefusesOnly : Type 0
 ReadingRefusesOnly =
     (number : ℕ) (closed : Bool) (bs : List ℕ) (room : ℕ)
     → (readAnswer (dialectOf number) closed bs room .refusal ≡ 0) ↔ ((number < 3) × (length bs ≤ maxBytes))
+
+-- a coordinate refuses nothing but an edition other than 1 and 2, what is infinite or no number, and a magnitude over 1000 m
+abbrev pub MillimetresRefuseOnly : Type 0
+MillimetresRefuseOnly =
+    (edition bits : ℕ)
+    → (millimetres edition bits .refusal ≡ 0) ↔ (Edition edition × (exponent bits ≡ 255 → ⊥) × (magnitude bits ≤ 1000 * 2 ^ 150))
+
+-- and an edition other than 1 and 2 whatever the float is: 32 comes before 30 and 31 (paper 02, (iv))
+abbrev pub NoEditionFirst : Type 0
+NoEditionFirst = (edition bits : ℕ) → (millimetres edition bits .refusal ≡ 32) ↔ (Edition edition → ⊥)
 
 -- a refusal changes no number of the table
 abbrev pub RefusalChangesNothing : Type 0
@@ -132,6 +147,35 @@ abbrev pub ClosedIsLeftmost : Type 0
 ClosedIsLeftmost =
     (d : Dialect) (bs : List ℕ) (room : ℕ) (ws : List Row) → Leftmost (StandsIn d bs) 0 ws → length ws ≤ room
     → (closedOf d room bs .rows ≡ ws) × (closedOf d room bs .state ≡ stateEnd)
+
+-- "Millimetres are the nearest whole number to the exact value, by the edition named" (demand 2 as paper 02, (iv), has it): of all whole
+-- numbers, a coordinate's answer that is no refusal is the one nearest to 1000 times the exact value and, at an exact half, the one that
+-- the edition takes
+abbrev pub MillimetresNearest : Type 0
+MillimetresNearest =
+    (edition bits : ℕ) → millimetres edition bits .refusal ≡ 0 → (z : ℤ)
+    → (millimetres edition bits .value ≡ z) ↔ RoundsMillimetres (tiesOf edition) bits z
+
+-- so is an accuracy's, of its tenths
+abbrev pub AccuracyNearest : Type 0
+AccuracyNearest =
+    (edition tenths : ℕ) → accuracyMillimetres edition tenths .refusal ≡ 0 → (z : ℤ)
+    → (pos (accuracyMillimetres edition tenths .millimetres) ≡ z) ↔ Rounds (tiesOf edition) false tenths 10 z
+
+-- "they differ only at exact halves" (paper 02, (iv)), and there by one: edition 1 is further from zero
+abbrev pub EditionsDiffer : Type 0
+EditionsDiffer =
+    (bits : ℕ)
+    → (millimetres 2 bits ≡ millimetres 1 bits)
+    ⊎ (HalfMillimetre bits
+    × ((m : ℕ) × (millimetres 2 bits ≡ value (signed (negative bits) m)) × (millimetres 1 bits ≡ value (signed (negative bits) (suc m)))))
+
+-- the same of an accuracy
+abbrev pub AccuraciesDiffer : Type 0
+AccuraciesDiffer =
+    (tenths : ℕ)
+    → (accuracyMillimetres 2 tenths ≡ accuracyMillimetres 1 tenths)
+    ⊎ (Half tenths 10 × (accuracyMillimetres 1 tenths .millimetres ≡ suc (accuracyMillimetres 2 tenths .millimetres)))
 
 -- with any room, the closed reading says "none", no row with state 2, exactly if no frame stands anywhere
 abbrev pub NoneExactlyIfNoneStands : Type 0
@@ -314,7 +358,7 @@ FeedRefusesExactly =
 abbrev pub CarryEnough : Type 0
 CarryEnough = (d : Dialect) (s : Stream) (carry bytes : List ℕ) → length (restOf d s carry bytes) < longestOf d
 
--- -- Values at the edges (paper 01; paper 02, (i) and (ii))
+-- -- Values at the edges (paper 01; paper 02, (i), (ii) and (iv))
 
 -- the rules answer as the lines say
 abbrev pub Hold : List Line → Type 0

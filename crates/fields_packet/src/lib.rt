@@ -33,10 +33,10 @@ pub extern "C" fn vq_step(kind: u32, packet: &[u8], at: usize) -> PacketStep
     packet_fields::step(kind, packet, Cursor { at })
 }
 
-// Point `index` of a packet of kind 16 in millimetres; 5, 7, 6, then 30 or 31.
+// Point `index` of a packet of kind 16 in millimetres by an edition; 5, 7, 6, 32, then 30 or 31.
 #[no_mangle]
-pub extern "C" fn vq_point(packet: &[u8], index: usize) -> PacketPoint
-    ensures { λ r. ⌜ r ≡ pointOf (now (packet .entry)) index ⌝ }
+pub extern "C" fn vq_point(edition: u32, packet: &[u8], index: usize) -> PacketPoint
+    ensures { λ r. ⌜ r ≡ pointOf edition (now (packet .entry)) index ⌝ }
 {
-    packet_points::point(packet, index)
+    packet_points::point(edition, packet, index)
 }

@@ -30,12 +30,12 @@ pub extern "C" fn vq_read_targets(frame: &[u8]) -> TargetFrame
     sirad_read_targets::read_targets(frame)
 }
 
-// The status of exactly one whole U frame; else 5.
+// The status of exactly one whole U frame, its accuracy in millimetres by an edition; else 5, then 32.
 #[no_mangle]
-pub extern "C" fn vq_read_status(frame: &[u8]) -> StatusFrame
-    ensures { λ r. ⌜ r ≡ readStatus (now (frame .entry)) ⌝ }
+pub extern "C" fn vq_read_status(edition: u32, frame: &[u8]) -> StatusFrame
+    ensures { λ r. ⌜ r ≡ readStatus edition (now (frame .entry)) ⌝ }
 {
-    sirad_read::read_status(frame)
+    sirad_read::read_status(edition, frame)
 }
 
 // The flags of exactly one whole E frame; else 5.

@@ -27,10 +27,11 @@ pub extern "C" fn vq_judge(dialect: u32, bytes: &[u8], offset: usize) -> Judgeme
     }
 }
 
-// The 32 bits of a coordinate in metres as whole millimetres, or the refusal number: 0x3D800000 is 63.
+// The 32 bits of a coordinate in metres as whole millimetres by an edition, or the refusal number: 0x3D800000 is 63 in edition 1, 62 in
+// edition 2, and refused with 32 in any other.
 #[no_mangle]
-pub extern "C" fn vq_millimetres(bits: u32) -> Quantity
-    ensures { λ r. ⌜ r ≡ millimetres bits ⌝ }
+pub extern "C" fn vq_millimetres(edition: u32, bits: u32) -> Quantity
+    ensures { λ r. ⌜ r ≡ millimetres edition bits ⌝ }
 {
-    units::coordinate_to_millimetres(bits)
+    units::coordinate_to_millimetres(edition, bits)
 }

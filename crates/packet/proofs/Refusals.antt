@@ -8,12 +8,13 @@ use Prim.Native.Nat.{ℕ, _+_, _*_, _^_, _<_, _≤_}
 use native.Mathlib.Omega.{arith}
 use native.Mathlib.Decide.{decLt}
 use lib.Dec.{eqb, ltb}
-use borrow.Author.Tests.{ltb-true, ltb-false, lt-ltb, le-ltb, eq-eqb, eqb-true, eqb-false}
+use borrow.Author.Tests.{ltb-true, ltb-false, lt-ltb, le-ltb, eq-eqb, ne-eqb, eqb-true, eqb-false}
 use Rattle.digits.specs.LittleEndian.{wordAt}
 use Rattle.digits.proofs.Choices.{test, both-ways}
 use Rattle.units.specs.declared.Quantity.{Quantity}
 use Rattle.units.specs.Float.{notFinite, magnitude}
-use Rattle.units.specs.Units.{millimetres}
+use Rattle.units.specs.Units.{isEdition, Edition, coordinate, millimetres}
+use Rattle.units.proofs.Theorems.{millimetres-32}
 use Rattle.packet.specs.declared.Found.{Found}
 use Rattle.packet.specs.declared.Found.the-variants.{At, Missing}
 use Rattle.packet.specs.declared.PacketHeader.{PacketHeader}
@@ -156,44 +157,46 @@ points-refusals bs = record {
 -- -- A point
 
 -- a coordinate refuses 30 or more
-coordinate-number : (b : ℕ) → (millimetres b .refusal ≡ 0 → ⊥) → 30 ≤ millimetres b .refusal
-unfolding millimetres
-coordinate-number b n = test (notFinite b)
-    (λ y. rw y (omega arith))
-    (λ f. test (ltb (1000 * 2 ^ 150) (magnitude b)) (λ y. rw (f, y) (omega arith)) (λ g. absurd (n (rw (f, g) refl))))
+coordinate-number : (edition b : ℕ) → (millimetres edition b .refusal ≡ 0 → ⊥) → 30 ≤ millimetres edition b .refusal
+unfolding millimetres coordinate
+coordinate-number edition b n = test (isEdition edition)
+    (λ e. test (notFinite b)
+    (λ y. rw (e, y) (omega arith))
+    (λ f. test (ltb (1000 * 2 ^ 150) (magnitude b)) (λ y. rw (e, f, y) (omega arith)) (λ g. absurd (n (rw (e, f, g) refl)))))
+    (λ e. rw e (omega arith))
 
 -- the coordinates of the point in the 16 bytes from p on
-module _ (bs : List ℕ) (p : ℕ) where
+module _ (edition : ℕ) (bs : List ℕ) (p : ℕ) where
   abbrev x : Quantity
-  x = millimetres (wordAt bs p)
+  x = millimetres edition (wordAt bs p)
 
   abbrev y : Quantity
-  y = millimetres (wordAt bs (p + 4))
+  y = millimetres edition (wordAt bs (p + 4))
 
   abbrev z : Quantity
-  z = millimetres (wordAt bs (p + 8))
+  z = millimetres edition (wordAt bs (p + 8))
 
   -- a point refuses 30 or more
-  point-number : (pointAt bs p .refusal ≡ 0 → ⊥) → 30 ≤ pointAt bs p .refusal
+  point-number : (pointAt edition bs p .refusal ≡ 0 → ⊥) → 30 ≤ pointAt edition bs p .refusal
   unfolding pointAt pointFrom
   point-number n = test (eqb (x .refusal) 0)
       (λ a. test (eqb (y .refusal) 0)
       (λ b. test (eqb (z .refusal) 0)
       (λ c. absurd (n (rw (a, b, c) refl)))
-      (λ c. rw (a, b, c) (coordinate-number (wordAt bs (p + 8)) (eqb-false (z .refusal) 0 c))))
-      (λ b. rw (a, b) (coordinate-number (wordAt bs (p + 4)) (eqb-false (y .refusal) 0 b))))
-      (λ a. rw a (coordinate-number (wordAt bs p) (eqb-false (x .refusal) 0 a)))
+      (λ c. rw (a, b, c) (coordinate-number edition (wordAt bs (p + 8)) (eqb-false (z .refusal) 0 c))))
+      (λ b. rw (a, b) (coordinate-number edition (wordAt bs (p + 4)) (eqb-false (y .refusal) 0 b))))
+      (λ a. rw a (coordinate-number edition (wordAt bs p) (eqb-false (x .refusal) 0 a)))
 
   -- that is, no number between
-  point-not : (n : ℕ) → 0 < n → n < 30 → pointAt bs p .refusal ≡ n → ⊥
+  point-not : (n : ℕ) → 0 < n → n < 30 → pointAt edition bs p .refusal ≡ n → ⊥
   point-not n a b h = let l = point-number (λ e. omega arith) in omega arith
 
   -- and none exactly if its three coordinates have values
-  measured-exactly : (pointAt bs p .refusal ≡ 0) ↔ Measured bs p
+  measured-exactly : (pointAt edition bs p .refusal ≡ 0) ↔ Measured edition bs p
   unfolding pointAt pointFrom
   measured-exactly = (to, λ m. rw (eq-eqb (x .refusal) 0 (m .x), eq-eqb (y .refusal) 0 (m .y), eq-eqb (z .refusal) 0 (m .z)) refl)
     where
-      to : pointAt bs p .refusal ≡ 0 → Measured bs p
+      to : pointAt edition bs p .refusal ≡ 0 → Measured edition bs p
       to h = test (eqb (x .refusal) 0)
           (λ a. test (eqb (y .refusal) 0)
           (λ b. test (eqb (z .refusal) 0)
@@ -201,6 +204,20 @@ module _ (bs : List ℕ) (p : ℕ) where
           (λ c. absurd (eqb-false (z .refusal) 0 c (rw (a, b, c) at h))))
           (λ b. absurd (eqb-false (y .refusal) 0 b (rw (a, b) at h))))
           (λ a. absurd (eqb-false (x .refusal) 0 a (rw a at h)))
+
+  -- 32 exactly if there is no such edition: then X is refused with it
+  unnamed-exactly : (pointAt edition bs p .refusal ≡ 32) ↔ (Edition edition → ⊥)
+  unfolding pointAt pointFrom
+  unnamed-exactly = (to, λ n. let e = millimetres-32 edition (wordAt bs p) .1 n in rw (ne-eqb (x .refusal) 0 (λ f. omega arith)) e)
+    where
+      to : pointAt edition bs p .refusal ≡ 32 → Edition edition → ⊥
+      to h = test (eqb (x .refusal) 0)
+          (λ a. test (eqb (y .refusal) 0)
+          (λ b. test (eqb (z .refusal) 0)
+          (λ c. let e : _≡_ {A = ℕ} 0 32 = rw (a, b, c) at h in absurd (omega arith))
+          (λ c. millimetres-32 edition (wordAt bs (p + 8)) .0 (rw (a, b, c) at h)))
+          (λ b. millimetres-32 edition (wordAt bs (p + 4)) .0 (rw (a, b) at h)))
+          (λ a. millimetres-32 edition (wordAt bs p) .0 (rw a at h))
 
 -- one record alone is the first of a type
 first-once : {type : ℕ} {bs : List ℕ} {k p i j : ℕ} → IsFirst type bs k p i → IsFirst type bs k p j → i ≡ j
@@ -211,21 +228,22 @@ first-once {i = i} {j = j} f g = go (decLt i j) (decLt j i)
     go (no n) (yes l) = absurd (f .before j l (g .here))
     go (no n) (no m) = omega arith
 
-module _ (bs : List ℕ) (i : ℕ) where
+module _ (edition : ℕ) (bs : List ℕ) (i : ℕ) where
   abbrev found : Found → ℕ
-  found f = pointFound bs (objectsOf bs) i f .refusal
+  found f = pointFound edition bs (objectsOf bs) i f .refusal
 
   -- a number below 30 that only the index gives
   six-exactly : (f : Found) → pointRecord bs ≡ f → (found f ≡ 6) ↔ (HasPoints bs × (objectsOf bs ≤ i))
   six-exactly (At q) a = Iff·trans
-      (second-exactly (λ (x : PacketPoint). x .refusal) (ltb i (objectsOf bs)) (pointAt bs (q + 8 + 16 * i)) (noPoint 6) 6 refl
-      (point-not bs (q + 8 + 16 * i) 6 (omega arith) (omega arith)))
+      (second-exactly (λ (x : PacketPoint). x .refusal) (ltb i (objectsOf bs)) (pointAt edition bs (q + 8 + 16 * i)) (noPoint 6) 6 refl
+      (point-not edition bs (q + 8 + 16 * i) 6 (omega arith) (omega arith)))
       (λ h. (found-has bs q a, ltb-false i (objectsOf bs) h), λ h. le-ltb i (objectsOf bs) (h .1))
   six-exactly Missing m = (λ h. absurd (omega arith), λ h. absurd (missing-lacks bs m (h .0)))
 
   not-of-record : (q n : ℕ) → 0 < n → n < 30 → (n ≡ 6 → ⊥) → found (At q) ≡ n → ⊥
-  not-of-record q n a b m = neither (λ (x : PacketPoint). x .refusal) (ltb i (objectsOf bs)) (pointAt bs (q + 8 + 16 * i)) (noPoint 6) n
-      (point-not bs (q + 8 + 16 * i) n a b) (λ e. m (sym e))
+  not-of-record q n a b m =
+      neither (λ (x : PacketPoint). x .refusal) (ltb i (objectsOf bs)) (pointAt edition bs (q + 8 + 16 * i)) (noPoint 6) n
+      (point-not edition bs (q + 8 + 16 * i) n a b) (λ e. m (sym e))
 
   seven-exactly : (f : Found) → pointRecord bs ≡ f → (found f ≡ 7) ↔ (HasPoints bs → ⊥)
   seven-exactly (At q) a =
@@ -236,7 +254,21 @@ module _ (bs : List ℕ) (i : ℕ) where
   not-five (At q) h = not-of-record q 5 (omega arith) (omega arith) (λ e. omega arith) h
   not-five Missing h = omega arith
 
-  zero-exactly : (f : Found) → pointRecord bs ≡ f → (found f ≡ 0) ↔ PointThere bs i
+  unnamed : (f : Found) → pointRecord bs ≡ f → (found f ≡ 32) ↔ (HasPoints bs × (i < objectsOf bs) × (Edition edition → ⊥))
+  unnamed Missing m = (λ h. absurd (omega arith), λ h. absurd (missing-lacks bs m (h .0)))
+  unnamed (At q) a = (to, from)
+    where
+      to : cond (ltb i (objectsOf bs)) (pointAt edition bs (q + 8 + 16 * i)) (noPoint 6) .refusal ≡ 32
+          → HasPoints bs × (i < objectsOf bs) × (Edition edition → ⊥)
+      to h = test (ltb i (objectsOf bs))
+          (λ l. (found-has bs q a, ltb-true i (objectsOf bs) l, unnamed-exactly edition bs (q + 8 + 16 * i) .0 (rw l at h)))
+          (λ n. let e : _≡_ {A = ℕ} 6 32 = rw n at h in absurd (omega arith))
+
+      from : HasPoints bs × (i < objectsOf bs) × (Edition edition → ⊥)
+          → cond (ltb i (objectsOf bs)) (pointAt edition bs (q + 8 + 16 * i)) (noPoint 6) .refusal ≡ 32
+      from h = rw (lt-ltb i (objectsOf bs) (h .1)) (unnamed-exactly edition bs (q + 8 + 16 * i) .1 (h .2))
+
+  zero-exactly : (f : Found) → pointRecord bs ≡ f → (found f ≡ 0) ↔ PointThere edition bs i
   zero-exactly Missing m =
       (λ h. absurd (omega arith), λ t. absurd (missing-lacks bs m (t .place, t .first .below, t .first .here)))
   zero-exactly (At q) a = (to, from)
@@ -244,29 +276,33 @@ module _ (bs : List ℕ) (i : ℕ) where
       first : (j : ℕ) × IsFirst 1 bs (recordsOf bs) 40 j × (q ≡ recordAt bs j 40)
       first = found-first 1 bs (recordsOf bs) 40 q a
 
-      to : cond (ltb i (objectsOf bs)) (pointAt bs (q + 8 + 16 * i)) (noPoint 6) .refusal ≡ 0 → PointThere bs i
+      to : cond (ltb i (objectsOf bs)) (pointAt edition bs (q + 8 + 16 * i)) (noPoint 6) .refusal ≡ 0 → PointThere edition bs i
       to h = test (ltb i (objectsOf bs))
           (λ l. record {
             place = first .0;
             first = first .1;
             below = ltb-true i (objectsOf bs) l;
-            measured = rw (first .2) at (measured-exactly bs (q + 8 + 16 * i) .0 (rw l at h));
+            measured = rw (first .2) at (measured-exactly edition bs (q + 8 + 16 * i) .0 (rw l at h));
           })
           (λ n. let e : _≡_ {A = ℕ} 6 0 = rw n at h in absurd (omega arith))
 
-      from : PointThere bs i → cond (ltb i (objectsOf bs)) (pointAt bs (q + 8 + 16 * i)) (noPoint 6) .refusal ≡ 0
+      from : PointThere edition bs i → cond (ltb i (objectsOf bs)) (pointAt edition bs (q + 8 + 16 * i)) (noPoint 6) .refusal ≡ 0
       from t =
           let e : recordAt bs (t .place) 40 ≡ q = ap (λ (j : ℕ). recordAt bs j 40) (first-once (t .first) (first .1)) ∙ sym (first .2) in
-          rw (lt-ltb i (objectsOf bs) (t .below)) (measured-exactly bs (q + 8 + 16 * i) .1 (rw e at (t .measured)))
+          rw (lt-ltb i (objectsOf bs) (t .below)) (measured-exactly edition bs (q + 8 + 16 * i) .1 (rw e at (t .measured)))
 
-pub point-refusals : (bs : List ℕ) (i : ℕ) → PointRefusals bs i
+pub point-refusals : (edition : ℕ) (bs : List ℕ) (i : ℕ) → PointRefusals edition bs i
 unfolding pointOf
-point-refusals bs i = record {
-  answers = number-exactly 16 bs number (pointRead bs i) (noPoint 5) refl 0 (λ e. omega arith) (zero-exactly bs i (pointRecord bs) refl);
-  no-packet = five-exactly 16 bs number (pointRead bs i) (noPoint 5) refl (not-five bs i (pointRecord bs));
-  none = number-exactly 16 bs number (pointRead bs i) (noPoint 5) refl 7 (λ e. omega arith) (seven-exactly bs i (pointRecord bs) refl);
-  over = number-exactly 16 bs number (pointRead bs i) (noPoint 5) refl 6 (λ e. omega arith) (six-exactly bs i (pointRecord bs) refl);
+point-refusals edition bs i = record {
+  answers = number-exactly 16 bs number read (noPoint 5) refl 0 (λ e. omega arith) (zero-exactly edition bs i (pointRecord bs) refl);
+  no-packet = five-exactly 16 bs number read (noPoint 5) refl (not-five edition bs i (pointRecord bs));
+  none = number-exactly 16 bs number read (noPoint 5) refl 7 (λ e. omega arith) (seven-exactly edition bs i (pointRecord bs) refl);
+  over = number-exactly 16 bs number read (noPoint 5) refl 6 (λ e. omega arith) (six-exactly edition bs i (pointRecord bs) refl);
+  no-edition = number-exactly 16 bs number read (noPoint 5) refl 32 (λ e. omega arith) (unnamed edition bs i (pointRecord bs) refl);
 }
   where
+    read : PacketPoint
+    read = pointRead edition bs i
+
     number : PacketPoint → ℕ
     number answer = answer .refusal

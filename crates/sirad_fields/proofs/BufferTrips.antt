@@ -9,6 +9,7 @@ use Rattle.digits.specs.Hex.{hexAt}
 use Rattle.digits.specs.Stores.{Writes}
 use Rattle.digits.specs.declared.Written.{Written}
 use Rattle.digits.proofs.StoreLaws.{left-holds, left-again}
+use Rattle.units.specs.Units.{Edition, tiesOf}
 use Rattle.sirad.proofs.TableLaws.{total-least}
 use Rattle.sirad_fields.specs.declared.DataFrame.{DataFrame}
 use Rattle.sirad_fields.specs.declared.Target.{Target}
@@ -39,15 +40,17 @@ error-buffer-reads-back flags out r after =
     })) _ _ out r after (error-written-reads-back flags)
 
 -- a status likewise, with its accuracy in millimetres too
-pub status-buffer-reads-back : (format gain accuracy range ramp bandwidth time : ℕ) (out : List ℕ) (r : Written) (after : List ℕ)
+pub status-buffer-reads-back : (edition : ℕ) → Edition edition → (format gain accuracy range ramp bandwidth time : ℕ)
+    (out : List ℕ) (r : Written) (after : List ℕ)
     → Writes (statusRefusal (statusNumbers format gain accuracy range ramp bandwidth time))
     (statusBytes (statusNumbers format gain accuracy range ramp bandwidth time)) out r after
     → r .refusal ≡ 0
-    → ReadsBack 5 (take (r .size) after) readStatus (statusFields (statusNumbers format gain accuracy range ramp bandwidth time))
-status-buffer-reads-back format gain accuracy range ramp bandwidth time out r after =
+    → ReadsBack 5 (take (r .size) after) (readStatus edition)
+    (statusFields (tiesOf edition) (statusNumbers format gain accuracy range ramp bandwidth time))
+status-buffer-reads-back edition known format gain accuracy range ramp bandwidth time out r after =
     let vs = statusNumbers format gain accuracy range ramp bandwidth time in
-    left-holds (λ (bs : List ℕ). ReadsBack 5 bs readStatus (statusFields vs)) _ _ out r after
-    (status-written-reads-back format gain accuracy range ramp bandwidth time)
+    left-holds (λ (bs : List ℕ). ReadsBack 5 bs (readStatus edition) (statusFields (tiesOf edition) vs)) _ _ out r after
+    (status-written-reads-back edition format gain accuracy range ramp bandwidth time known)
 
 -- targets likewise, and empty blocks as empty
 pub targets-buffer-read-back : (format gain : ℕ) (ts : List Target) (out : List ℕ) (r : Written) (after : List ℕ) → Phases ts
@@ -103,11 +106,12 @@ pub error-buffer-writes-back : (bs out : List ℕ) (r : Written) (after : List �
 error-buffer-writes-back bs out r after h = buffer-back 6 _ _ bs out r after (omega arith) (error-kind bs h) (error-read-writes-back bs h)
 
 -- a status
-pub status-buffer-writes-back : (bs out : List ℕ) (r : Written) (after : List ℕ) → readStatus bs .refusal ≡ 0 → length bs ≤ length out
-    → Writes (statusRefusal (sentNumbers (readStatus bs))) (statusBytes (sentNumbers (readStatus bs))) out r after
+pub status-buffer-writes-back : (edition : ℕ) (bs out : List ℕ) (r : Written) (after : List ℕ) → readStatus edition bs .refusal ≡ 0
+    → length bs ≤ length out
+    → Writes (statusRefusal (sentNumbers (readStatus edition bs))) (statusBytes (sentNumbers (readStatus edition bs))) out r after
     → BufferWritesBack 5 bs out r after
-status-buffer-writes-back bs out r after h =
-    buffer-back 5 _ _ bs out r after (omega arith) (status-kind bs h) (status-read-writes-back bs h)
+status-buffer-writes-back edition bs out r after h =
+    buffer-back 5 _ _ bs out r after (omega arith) (status-kind edition bs h) (status-read-writes-back edition bs h)
 
 -- targets
 pub targets-buffer-write-back : (bs out : List ℕ) (r : Written) (after : List ℕ) → readTargets bs .refusal ≡ 0 → length bs ≤ length out

@@ -8,14 +8,20 @@ use native.Mathlib.Omega.{arith}
 use borrow.Author.Tests.{eqb-true, eq-eqb, le-leb}
 use lib.Dec.{eqb}
 use Rattle.digits.specs.Hex.{hexAt}
+use lib.ListN.{drop}
+use Rattle.digits.proofs.Choices.{test}
+use Rattle.units.specs.Units.{isEdition, Edition}
+use Rattle.units.proofs.Theorems.{edition-exactly, no-edition}
+use Rattle.sirad.specs.Rows.{uPieces}
 use Rattle.sirad.specs.Table.{TableFrame}
 use Rattle.sirad.proofs.TableLaws.{whole-by-table}
 use Rattle.sirad_fields.specs.declared.DataFrame.{DataFrame}
 use Rattle.sirad_fields.specs.declared.TargetFrame.{TargetFrame}
 use Rattle.sirad_fields.specs.declared.StatusFrame.{StatusFrame}
 use Rattle.sirad_fields.specs.declared.ErrorFrame.{ErrorFrame}
+use Rattle.sirad_fields.specs.Values.{values}
 use Rattle.sirad_fields.specs.Frames.{frameKind}
-use Rattle.sirad_fields.specs.Fields.{isData, dataStart, readData, readTargets, readStatus, readError}
+use Rattle.sirad_fields.specs.Fields.{isData, dataStart, readData, readTargets, statusRead, readStatus, readError}
 use Rattle.sirad_fields.proofs.FrameLaws.{data-range, frame-kind, kind-whole}
 
 -- -- Any kind
@@ -53,14 +59,39 @@ unfolding readError
 error-reads-exactly bs = reads-exactly (λ (r : ErrorFrame). r .refusal) 6 bs _ _ refl (omega arith) refl
 
 -- a status that is read is of a U frame
-pub status-kind : (bs : List ℕ) → readStatus bs .refusal ≡ 0 → frameKind bs ≡ 5
+pub status-kind : (edition : ℕ) (bs : List ℕ) → readStatus edition bs .refusal ≡ 0 → frameKind bs ≡ 5
 unfolding readStatus
-status-kind bs = kind-found (λ (r : StatusFrame). r .refusal) 5 bs _ _ refl
+status-kind edition bs = kind-found (λ (r : StatusFrame). r .refusal) 5 bs _ _ refl
 
--- a status is read exactly if the bytes are one U frame
-pub status-reads-exactly : (bs : List ℕ) → (readStatus bs .refusal ≡ 0) ↔ TableFrame 5 bs
-unfolding readStatus
-status-reads-exactly bs = reads-exactly (λ (r : StatusFrame). r .refusal) 5 bs _ _ refl (omega arith) refl
+-- by an edition that there is
+pub status-edition : (edition : ℕ) (bs : List ℕ) → readStatus edition bs .refusal ≡ 0 → isEdition edition ≡ true
+unfolding readStatus statusRead
+status-edition edition bs h =
+    let e : statusRead edition (values uPieces (drop 2 bs)) .refusal ≡ 0 = rw (status-kind edition bs h) at h in
+    test (isEdition edition) (λ t. t) (λ f. let n : _≡_ {A = ℕ} 32 0 = rw f at e in absurd (omega arith))
+
+-- a status is read exactly if the bytes are one U frame and the edition is 1 or 2 (paper 02, (iv))
+pub status-reads-exactly : (edition : ℕ) (bs : List ℕ) → (readStatus edition bs .refusal ≡ 0) ↔ (TableFrame 5 bs × Edition edition)
+unfolding readStatus statusRead
+status-reads-exactly edition bs = (
+  λ h. (kind-by-table 5 bs (omega arith) .0 (status-kind edition bs h), edition-exactly edition .0 (status-edition edition bs h)),
+  λ f. rw (kind-by-table 5 bs (omega arith) .1 (f .0), edition-exactly edition .1 (f .1)) refl,
+)
+
+-- and refused with 32 exactly if they are one and it is not
+pub status-unnamed-exactly : (edition : ℕ) (bs : List ℕ)
+    → (readStatus edition bs .refusal ≡ 32) ↔ (TableFrame 5 bs × (Edition edition → ⊥))
+unfolding readStatus statusRead
+status-unnamed-exactly edition bs = (
+  λ h.
+      let k = test (eqb (frameKind bs) 5) (λ t. eqb-true (frameKind bs) 5 t)
+      (λ f. let n : _≡_ {A = ℕ} 5 32 = rw f at h in absurd (omega arith)) in
+      let e : statusRead edition (values uPieces (drop 2 bs)) .refusal ≡ 32 = rw k at h in (
+        kind-by-table 5 bs (omega arith) .0 k,
+        no-edition edition .0 (test (isEdition edition) (λ t. let n : _≡_ {A = ℕ} 0 32 = rw t at e in absurd (omega arith)) (λ f. f)),
+      ),
+  λ f. rw (kind-by-table 5 bs (omega arith) .1 (f .0), no-edition edition .1 (f .1)) refl,
+)
 
 -- targets that are read are of a T frame
 pub targets-kind : (bs : List ℕ) → readTargets bs .refusal ≡ 0 → frameKind bs ≡ 4

@@ -14,6 +14,8 @@ use Rattle.digits.proofs.Choices.{and-right}
 use Rattle.digits.proofs.HexLaws.{hex-at-below}
 use Rattle.form.specs.declared.Judgement.the-variants.{Whole}
 use Rattle.form.specs.Form.{judge}
+use Rattle.units.specs.Units.{Edition, tiesOf}
+use Rattle.units.proofs.Theorems.{edition-exactly}
 use Rattle.sirad.specs.Sirad.{sirad}
 use Rattle.sirad.specs.Table.{identifier}
 use Rattle.sirad.specs.Rows.{blocks, characters, rPieces, tPieces, uPieces, ePieces, rowOf}
@@ -22,11 +24,11 @@ use Rattle.sirad_fields.specs.Values.{values, written, fit, distinct}
 use Rattle.sirad_fields.specs.Frames.{frameKind, numbersIn, frameOf, ReadsBack, WritesBack}
 use Rattle.sirad_fields.specs.Fields.{isData, dataStart, readData, partOf, dataNumbers, dataRefusal, dataBytes}
 use Rattle.sirad_fields.specs.Fields.{Phases, blockNumbers, allCarried, readTargets, targetNumbers, unencoded, unwritable}
-use Rattle.sirad_fields.specs.Fields.{targetsRefusal, targetsBytes, statusFields, readStatus, statusNumbers, sentNumbers}
+use Rattle.sirad_fields.specs.Fields.{targetsRefusal, targetsBytes, statusFields, statusRead, readStatus, statusNumbers, sentNumbers}
 use Rattle.sirad_fields.specs.Fields.{statusRefusal, statusBytes, readError, errorRefusal, errorBytes}
 use Rattle.sirad_fields.proofs.FrameLaws.{data-range, frame-kind, kind-length, Writable, numbers-back, size-back}
 use Rattle.sirad_fields.proofs.FrameLaws.{written-judged, written-kind, written-again, numbers-fit, numbers-differ}
-use Rattle.sirad_fields.proofs.ReadsExactly.{error-kind, status-kind, targets-kind, data-found, data-read}
+use Rattle.sirad_fields.proofs.ReadsExactly.{error-kind, status-kind, status-edition, targets-kind, data-found, data-read}
 use Rattle.sirad_fields.proofs.PhaseLaws.{numbers-targets, targets-numbers}
 
 -- values that are not refused fit
@@ -68,24 +70,26 @@ error-read-writes-back bs h =
 -- -- Status
 
 -- a status that is written is read back, with its accuracy in millimetres too
-pub status-written-reads-back : (format gain accuracy range ramp bandwidth time : ℕ)
+pub status-written-reads-back : (edition format gain accuracy range ramp bandwidth time : ℕ) → Edition edition
     → statusRefusal (statusNumbers format gain accuracy range ramp bandwidth time) ≡ 0
-    → ReadsBack 5 (statusBytes (statusNumbers format gain accuracy range ramp bandwidth time)) readStatus
-    (statusFields (statusNumbers format gain accuracy range ramp bandwidth time))
-unfolding readStatus distinct
-status-written-reads-back format gain accuracy range ramp bandwidth time h =
+    → ReadsBack 5 (statusBytes (statusNumbers format gain accuracy range ramp bandwidth time)) (readStatus edition)
+    (statusFields (tiesOf edition) (statusNumbers format gain accuracy range ramp bandwidth time))
+unfolding readStatus statusRead distinct
+status-written-reads-back edition format gain accuracy range ramp bandwidth time known h =
     let vs = statusNumbers format gain accuracy range ramp bandwidth time in
     let w = unsized 5 vs (omega arith) (omega arith) (not-refused (fit uPieces vs) h) refl in
-    record { judged = written-judged 5 0 vs w; reads = rw (written-kind 5 0 vs w, numbers-back 5 0 vs w) }
+    let t = edition-exactly edition .1 known in
+    record { judged = written-judged 5 0 vs w; reads = rw (written-kind 5 0 vs w, t, numbers-back 5 0 vs w) }
 
 -- a status that is read and written again is the same frame
-pub status-read-writes-back : (bs : List ℕ) → readStatus bs .refusal ≡ 0
-    → WritesBack 5 (statusRefusal (sentNumbers (readStatus bs))) (statusBytes (sentNumbers (readStatus bs))) bs
-unfolding readStatus values
-status-read-writes-back bs h =
-    let k = status-kind bs h in
+pub status-read-writes-back : (edition : ℕ) (bs : List ℕ) → readStatus edition bs .refusal ≡ 0
+    → WritesBack 5 (statusRefusal (sentNumbers (readStatus edition bs))) (statusBytes (sentNumbers (readStatus edition bs))) bs
+unfolding readStatus statusRead values
+status-read-writes-back edition bs h =
+    let k = status-kind edition bs h in
+    let t = status-edition edition bs h in
     let p : 0 < 5 = omega arith in
-    record { fits = rw (k, numbers-fit 5 bs p k); same = rw k (written-again 5 bs p k) }
+    record { fits = rw (k, t, numbers-fit 5 bs p k); same = rw (k, t) (written-again 5 bs p k) }
 
 -- -- Targets
 

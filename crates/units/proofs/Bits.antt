@@ -12,10 +12,6 @@ use Rattle.digits.proofs.Choices.{test}
 use Rattle.units.specs.Float.{exponent, fraction, notFinite, significand, scale, magnitude}
 
 module _ (bits : ℕ) where
-  -- the fraction stands below the sign
-  pub fraction-is : fraction bits ≡ bits % 2 ^ 31 % 2 ^ 23
-  fraction-is = omega arith
-
   -- a significand has 24 bits
   significand-small : significand bits < 2 ^ 24
   unfolding significand

@@ -1,3 +1,4 @@
 pub mod Rounding
 pub mod Float
 pub mod Units
+pub mod Internal

@@ -1,16 +1,18 @@
-// The number rules: what characters, accuracies and coordinates mean.
+// The number rules: what characters, accuracies and coordinates mean (paper 01, "Numbers"; paper 02, (iv)).
 // Sign and magnitude stay apart up to `signed_quantity`; the magnitudes are whole numbers, so no rounding but ours takes place.
-ghost use Prim.Native.Nat.{_*_, _^_, _<_, _≤_};
-ghost use mathlib.Core.Bool.{cond};
+ghost use Prim.Native.Nat.{_^_, _<_, _≤_};
 ghost use mathlib.Core.Path.{_≡_};
-ghost use lib.Dec.{leb, ltb};
-ghost use Rattle.units.specs.Rounding.{distance, signed, nearest};
-ghost use Rattle.units.specs.Units.{value, refused, decibels, centidegrees, accuracyMillimetres, millimetres};
+ghost use Rattle.units.specs.Rounding.{distance, signed, halfUp, nearest};
+ghost use Rattle.units.specs.Units.{value, refused, decibels, centidegrees, isEdition, tiesOf, accuracyMillimetres};
+ghost use Rattle.units.specs.Units.{coordinate, millimetres};
+ghost use Rattle.units.specs.Internal.{Inside, parts, outside};
 
-// Refusals (paper 01, "Refusal numbers").
+// Refusals (paper 01, "Refusal numbers"; paper 02, (iv)).
 const NOT_FINITE: u32 = 30;
 
 const TOO_FAR: u32 = 31;
+
+const NO_EDITION: u32 = 32;
 
 const NO_ENCODING: u32 = 50;
 
@@ -23,6 +25,11 @@ const ZERO_PHASE: u32 = 144;
 const PHASE_STEP: u32 = 1800;
 
 const PHASE_PARTS: u32 = 11;
+
+// The editions of the rule at exact halves: the first takes them away from zero, the second to the even neighbour.
+const AWAY_EDITION: u32 = 1;
+
+const EVEN_EDITION: u32 = 2;
 
 // An accuracy is sent in tenths of a millimetre.
 const ACCURACY_PARTS: u32 = 10;
@@ -40,12 +47,17 @@ const LIMIT_BITS: u32 = 0x447A0000;
 
 const INFINITE_BITS: u32 = 0x7F800000;
 
-// A magnitude is significand * 2 ^ exponent / 2 ^ ONE_SCALE metres; at LEAST_BITS the exponent leaves LEAST_SHIFT.
-const ONE_SCALE: u32 = 150;
+// A millimetre is 2 ^ 32 parts and half of one is HALF: from LEAST_BITS on a significand's one is SIGNIFICAND_PARTS of them, twice as many
+// with each step of the exponent.
+const SIGNIFICAND_PARTS: u64 = 125;
 
-const LEAST_SHIFT: u32 = ONE_SCALE - LEAST_BITS / LEADING_ONE;
+const HALF: u64 = 0x80000000;
 
-const MILLIMETRES_IN_METRE: u64 = 1000;
+// An accuracy in millimetres, or the refusal number with 0 millimetres.
+pub struct Accuracy {
+    pub refusal: u32,
+    pub millimetres: u16,
+}
 
 // A value, or the refusal number with the value 0.
 #[repr(C)]
@@ -92,20 +104,29 @@ fn apart(a: u32, b: u32) -> u32
     a - b
 }
 
-// The whole number nearest to n / d, a half up.
-fn rounded(n: u32, d: u32) -> u32
-    requires { ⌜ (n < 2 ^ 30) × (0 < d) × (d < 2 ^ 30) ⌝ }
-    ensures { λ r. ⌜ r ≡ nearest n d ⌝ }
+// Whether there is an edition of this number.
+fn is_edition(edition: u32) -> bool
+    ensures { λ r. ⌜ r ≡ isEdition edition ⌝ }
 {
-    (2 * n + d) / (2 * d)
+    AWAY_EDITION <= edition && edition <= EVEN_EDITION
 }
 
-// The whole number nearest to n / 2 ^ k, a half up.
-fn rounded_shift(n: u64, k: u32) -> u64
-    requires { ⌜ (n < 2 ^ 35) × (0 < k) × (k < 64) ⌝ }
-    ensures { λ r. ⌜ r ≡ nearest n (2 ^ k) ⌝ }
+// Whether a half above the whole number q goes up, in an edition: 1 or 0.
+fn half_up(edition: u32, q: u32) -> u32
+    ensures { λ r. ⌜ r ≡ halfUp (tiesOf edition) q ⌝ }
 {
-    ((n >> (k - 1)) + 1) / 2
+    if edition == AWAY_EDITION {
+        return 1;
+    }
+    q % 2
+}
+
+// The whole number nearest to n / d, halves by the edition.
+fn rounded(edition: u32, n: u32, d: u32) -> u32
+    requires { ⌜ (n < 2 ^ 30) × (0 < d) × (d < 2 ^ 30) ⌝ }
+    ensures { λ r. ⌜ r ≡ nearest (tiesOf edition) n d ⌝ }
+{
+    (2 * n + (d - 1) + half_up(edition, n / d)) / (2 * d)
 }
 
 // What a character means in dB: 90 (`Z`) is -84, and 33 is refused with 50.
@@ -127,44 +148,92 @@ pub fn centidegrees_of(character: u8) -> Quantity
         let c = character as u32;
         let steps = apart(c, ZERO_PHASE);
         let n = PHASE_STEP * steps;
-        return signed_quantity(c < ZERO_PHASE, rounded(n, PHASE_PARTS));
+        return signed_quantity(c < ZERO_PHASE, rounded(AWAY_EDITION, n, PHASE_PARTS));
     }
     refusal_of(NO_ENCODING)
 }
 
-// Tenths of a millimetre to whole millimetres, a half up: 512 is 51, and 5 is 1.
-pub fn accuracy_to_millimetres(tenths: u16) -> u16
-    ensures { λ r. ⌜ r ≡ accuracyMillimetres tenths ⌝ }
+// Tenths of a millimetre to whole millimetres: 512 is 51, and 5 is 1 in edition 1 and 0 in edition 2; 32 for any other edition.
+pub fn accuracy_to_millimetres(edition: u32, tenths: u16) -> Accuracy
+    ensures { λ r. ⌜ r ≡ accuracyMillimetres edition tenths ⌝ }
 {
-    let n = tenths as u32;
-    let whole = rounded(n, ACCURACY_PARTS);
-    whole as u16
-}
-
-// What a magnitude outside LEAST_BITS to LIMIT_BITS is refused with: 30, 31, or 0 below, where the value is 0.
-// The tests are cast, so nothing branches; what is infinite is too far as well.
-fn refusal_number(unsigned: u32) -> u32
-    ensures { λ r. ⌜ r ≡ cond (ltb 0x447A0000 unsigned) (cond (leb 0x7F800000 unsigned) 30 31) 0 ⌝ }
-{
-    let far = (LIMIT_BITS < unsigned) as u32;
-    let infinite = (INFINITE_BITS <= unsigned) as u32;
-    TOO_FAR * far - (TOO_FAR - NOT_FINITE) * infinite
-}
-
-// A coordinate, the bits of a float in metres, to whole millimetres, halves away from zero:
-// 3D800000 (0.0625 m) is 63, BD800000 is -63, and 7F800000 (infinite) is refused with 30, 447A0001 (over 1000 m) with 31.
-pub fn coordinate_to_millimetres(bits: u32) -> Quantity
-    ensures { λ r. ⌜ r ≡ millimetres bits ⌝ }
-{
-    let unsigned = bits % SIGN;
-    // Below LEAST_BITS the difference wraps round to over 2 ^ 31: one test for both ends.
-    let over = std::num::wrapping_sub_u32(unsigned, LEAST_BITS);
-    if LIMIT_BITS - LEAST_BITS < over {
-        return refusal_of(refusal_number(unsigned));
+    if is_edition(edition) {
+        let n = tenths as u32;
+        let whole = rounded(edition, n, ACCURACY_PARTS);
+        return Accuracy {
+            refusal: 0,
+            millimetres: whole as u16,
+        };
     }
-    let m = LEADING_ONE + unsigned % LEADING_ONE;
-    let n = MILLIMETRES_IN_METRE * (m as u64);
-    let k = LEAST_SHIFT - over / LEADING_ONE;
-    let whole = rounded_shift(n, k) as u32;
-    signed_quantity(bits >> 31 == 1, whole)
+    Accuracy {
+        refusal: NO_EDITION,
+        millimetres: 0,
+    }
+}
+
+// What a magnitude outside LEAST_BITS to LIMIT_BITS is refused with, by what its bits are over LEAST_BITS: 31, 30, or 0 for one below,
+// where the value is 0.
+fn refusal_number(over: u32) -> u32
+    ensures { λ r. ⌜ r ≡ outside over ⌝ }
+{
+    if SIGN - LEAST_BITS <= over {
+        return 0;
+    }
+    if INFINITE_BITS - LEAST_BITS <= over {
+        return NOT_FINITE;
+    }
+    TOO_FAR
+}
+
+// The parts of a coordinate from LEAST_BITS to LIMIT_BITS; `over` is what its magnitude's bits are over LEAST_BITS.
+fn parts_of(bits: u32, over: u32) -> u64
+    requires { ⌜ Inside bits over ⌝ }
+    ensures { λ r. ⌜ r ≡ parts bits over ⌝ }
+{
+    let significand = LEADING_ONE + bits % LEADING_ONE;
+    (SIGNIFICAND_PARTS * (significand as u64)) << (over / LEADING_ONE)
+}
+
+// The millimetres of such a coordinate. Only what has no rest below HALF can be an exact half.
+fn inside(edition: u32, bits: u32, over: u32) -> Quantity
+    requires { ⌜ Inside bits over ⌝ }
+    ensures { λ r. ⌜ r ≡ coordinate (tiesOf edition) bits ⌝ }
+{
+    let negative = bits >> 31 == 1;
+    let parts = parts_of(bits, over);
+    if parts % HALF == 0 {
+        if edition != AWAY_EDITION {
+            let halves = (parts / HALF) as u32;
+            return signed_quantity(negative, rounded(edition, halves, 2));
+        }
+    }
+    let whole = (parts + HALF) / (2 * HALF);
+    signed_quantity(negative, whole as u32)
+}
+
+// A coordinate to whole millimetres by an edition that there is.
+fn millimetres_by(edition: u32, bits: u32) -> Quantity
+    ensures { λ r. ⌜ r ≡ coordinate (tiesOf edition) bits ⌝ }
+{
+    // Below LEAST_BITS the difference wraps round to over 2 ^ 30: one test for both ends.
+    let over = std::num::wrapping_sub_u32(bits, LEAST_BITS) % SIGN;
+    if over <= LIMIT_BITS - LEAST_BITS {
+        return inside(edition, bits, over);
+    }
+    refusal_of(refusal_number(over))
+}
+
+// A coordinate, the bits of a float in metres, to whole millimetres, halves by the edition: 3D800000 (0.0625 m) is 63 in edition 1 and 62
+// in edition 2, BD800000 is -63 and -62; any other edition is refused with 32, 7F800000 (infinite) with 30, 447A0001 (over 1000 m) with 31.
+// Each call of `millimetres_by` names its edition, so that the compiler makes a path of its own for each.
+pub fn coordinate_to_millimetres(edition: u32, bits: u32) -> Quantity
+    ensures { λ r. ⌜ r ≡ millimetres edition bits ⌝ }
+{
+    if edition == AWAY_EDITION {
+        return millimetres_by(AWAY_EDITION, bits);
+    }
+    if edition == EVEN_EDITION {
+        return millimetres_by(EVEN_EDITION, bits);
+    }
+    refusal_of(NO_EDITION)
 }

@@ -60,7 +60,7 @@ extern "C" {
 #[cfg(gateway_linked)]
 extern "C" {
     fn vq_closed_reading(dialect: u32, bytes: *const u8, count: usize, table: *mut u32, numbers: usize) -> Reading;
-    fn vq_millimetres(bits: u32) -> Millimetres;
+    fn vq_millimetres(edition: u32, bits: u32) -> Millimetres;
 }
 
 impl Peer {
@@ -146,7 +146,7 @@ impl Peer {
             #[cfg(gateway_linked)]
             Peer::Gateway => each_float(bytes, table, |bits| {
                 // SAFETY: numbers only.
-                let answer = unsafe { vq_millimetres(bits) };
+                let answer = unsafe { vq_millimetres(1, bits) };
                 [answer.refusal, answer.value as u32]
             }),
             Peer::C => each_float(bytes, table, |bits| {
@@ -154,7 +154,7 @@ impl Peer {
                 let answer = unsafe { c_millimetres(bits) };
                 [answer.refusal, answer.value as u32]
             }),
-            _ => each_float(bytes, table, |bits| match millimetres(bits) {
+            _ => each_float(bytes, table, |bits| match millimetres(1, bits) {
                 Ok(value) => [0, value as u32],
                 Err(refusal) => [refusal, 0],
             }),

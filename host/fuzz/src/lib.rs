@@ -42,11 +42,11 @@ fn compare(choices: &[u8], capture: &[u8]) -> Result<(), String> {
     let dialect = u32::from(choices[0] % 3);
     let places: Vec<usize> = choices[1..8].iter().map(|&part| capture.len() * usize::from(part) / 255).collect();
     for float in capture.chunks_exact(4) {
-        check_millimetres(&Tried, u32::from_le_bytes([float[0], float[1], float[2], float[3]]))?;
+        check_millimetres(&Tried, 1, u32::from_le_bytes([float[0], float[1], float[2], float[3]]))?;
     }
     check_capture(&Tried, dialect, capture)?;
     #[cfg(not(feature = "wrong"))]
-    check_fields(&Tried, dialect, capture).map_err(|difference| difference.what)?;
+    check_fields(&Tried, dialect, 1, capture).map_err(|difference| difference.what)?;
     #[cfg(not(feature = "wrong"))]
     check_feeding(&Tried, dialect, capture, &places[1..], usize::from(choices[8]), usize::from(choices[9]))?;
     // Last, because it ends with judgements: libFuzzer tries the operands of the last comparisons.
@@ -69,8 +69,8 @@ mod wrong {
             answer
         }
 
-        fn millimetres(&self, bits: u32) -> Millimetres {
-            Reference.millimetres(bits)
+        fn millimetres(&self, edition: u32, bits: u32) -> Millimetres {
+            Reference.millimetres(edition, bits)
         }
 
         fn open_reading(&self, dialect: u32, bytes: &[u8], table: &mut [u32]) -> Reading {

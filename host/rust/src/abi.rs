@@ -87,7 +87,7 @@ pub trait Subject {
     /// `vq_judge`.
     fn judge(&self, dialect: u32, bytes: &[u8], place: usize) -> Judgement;
     /// `vq_millimetres`.
-    fn millimetres(&self, bits: u32) -> Millimetres;
+    fn millimetres(&self, edition: u32, bits: u32) -> Millimetres;
     /// `vq_open_reading`.
     fn open_reading(&self, dialect: u32, bytes: &[u8], table: &mut [u32]) -> Reading;
     /// `vq_closed_reading`.
@@ -102,8 +102,8 @@ impl Subject for Reference {
         judge(dialect, bytes, place).into()
     }
 
-    fn millimetres(&self, bits: u32) -> Millimetres {
-        millimetres(bits).into()
+    fn millimetres(&self, edition: u32, bits: u32) -> Millimetres {
+        millimetres(edition, bits).into()
     }
 
     fn open_reading(&self, dialect: u32, bytes: &[u8], table: &mut [u32]) -> Reading {
@@ -133,7 +133,8 @@ mod tests {
     fn on_a_refusal_all_others_are_0() {
         let mut table = [0; 3];
         assert_eq!(Reference.judge(9, b"!", 0), Judgement { refusal: 1, ..Judgement::default() });
-        assert_eq!(Reference.millimetres(0x7F80_0000), Millimetres { refusal: 30, value: 0 });
+        assert_eq!(Reference.millimetres(2, 0x7F80_0000), Millimetres { refusal: 30, value: 0 });
+        assert_eq!(Reference.millimetres(3, 0x3D80_0000), Millimetres { refusal: 32, value: 0 });
         assert_eq!(Reference.open_reading(9, b"!", &mut table), Reading { refusal: 1, ..Reading::default() });
         assert_eq!(Reference.closed_reading(9, b"!", &mut table), Reading { refusal: 1, ..Reading::default() });
     }

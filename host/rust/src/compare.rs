@@ -10,10 +10,11 @@ use std::collections::BTreeMap;
 use std::fmt;
 
 use crate::abi::{Judgement, Reading, Reference, Subject, BAD, WAITING, WHOLE};
-use crate::generate::floats::{float_bits, float_edges};
+use crate::generate::floats::{float_bits, float_edges, wrong_edition, wrong_editions};
 use crate::generate::random::Random;
 use crate::generate::{capture, mmwave, vital_signs, Family, DIALECT_NAMES};
 use crate::judgement::{DIALECTS, MMWAVE, SIRAD, VITAL_SIGNS};
+use crate::numbers::EDITIONS;
 use crate::packet_rules::MAGIC;
 use crate::reading::{ROW, TABLE_FULL};
 use crate::refusal::MAX_BYTES;
@@ -28,6 +29,13 @@ pub struct Difference {
     pub origin: String,
     /// The bytes that were lent.
     pub bytes: Vec<u8>,
+}
+
+impl Difference {
+    /// The same, and the edition that was named.
+    fn by_edition(self, edition: u32) -> Difference {
+        Difference { what: format!("{} by edition {edition}", self.what), ..self }
+    }
 }
 
 /// The most bytes that a difference prints; its seed makes all of them.
@@ -179,12 +187,12 @@ fn read(subject: &dyn Subject, dialect: u32, bytes: &[u8], numbers: usize, close
 }
 
 /// Compares one conversion.
-pub fn check_millimetres(subject: &dyn Subject, bits: u32) -> Result<(), String> {
-    let (expected, answer) = (Reference.millimetres(bits), subject.millimetres(bits));
+pub fn check_millimetres(subject: &dyn Subject, edition: u32, bits: u32) -> Result<(), String> {
+    let (expected, answer) = (Reference.millimetres(edition, bits), subject.millimetres(edition, bits));
     if answer == expected {
         return Ok(());
     }
-    Err(format!("millimetres of {bits:08X}: expected {expected:?}, answered {answer:?}"))
+    Err(format!("millimetres of {bits:08X} by edition {edition}: expected {expected:?}, answered {answer:?}"))
 }
 
 /// Every place of a short capture, both readings, tables of several sizes: what a fuzzer calls.
@@ -318,31 +326,51 @@ pub fn compare_readings(subject: &dyn Subject, first_seed: u64, at_least: u64) -
     Ok(tally)
 }
 
-/// At least so many conversions: all exponents with fractions at the edges, all ties, both sides of every half, both
-/// signs, then so many of any. Answers their number.
+/// A run of conversions.
+struct Conversions<'a> {
+    subject: &'a dyn Subject,
+    done: u64,
+}
+
+impl Conversions<'_> {
+    fn compare(&mut self, editions: &[u32], bits: u32, origin: &dyn Fn() -> String) -> Result<(), Difference> {
+        for &edition in editions {
+            self.done += 1;
+            let answer = check_millimetres(self.subject, edition, bits);
+            answer.map_err(|what| Difference { what, origin: origin(), bytes: bits.to_le_bytes().to_vec() })?;
+        }
+        Ok(())
+    }
+}
+
+/// Floats of every answer and refusal, for editions that are none.
+const SOME_FLOATS: [u32; 9] =
+    [0, 1 << 31, 0x3F80_0000, 0x3D80_0000, 0xBD80_0000, 0x447A_0000, 0xC47A_0001, 0x7F80_0000, 0xFFC0_0000];
+
+/// Conversions by both editions and by others: editions that are none, all exponents with fractions at the edges, all
+/// halves, both sides of every half millimetre, both signs, then so many of any. Answers their number.
 pub fn compare_millimetres(subject: &dyn Subject, first_seed: u64, at_least: u64) -> Result<u64, Difference> {
-    let mut done = 0;
-    let mut compare = |bits: u32, origin: &dyn Fn() -> String| {
-        done += 1;
-        let answer = check_millimetres(subject, bits);
-        answer.map_err(|what| Difference { what, origin: origin(), bytes: bits.to_le_bytes().to_vec() })
-    };
-    for bits in float_edges() {
-        compare(bits, &|| "the floats at the edges".to_owned())?;
+    let mut run = Conversions { subject, done: 0 };
+    for edition in wrong_editions() {
+        SOME_FLOATS.iter().try_for_each(|&bits| run.compare(&[edition], bits, &|| "the editions".to_owned()))?;
+    }
+    for (bits, wrong) in float_edges().into_iter().zip(wrong_editions().into_iter().cycle()) {
+        run.compare(&[1, 2, wrong], bits, &|| "the floats at the edges".to_owned())?;
     }
     for below in 0..1_000_000u32 {
         let half = ((f64::from(below) + 0.5) / 1000.0) as f32;
         for step in 0..3 {
             let bits = half.to_bits() + step - 1;
-            compare(bits, &|| format!("the floats around {below}.5 mm"))?;
-            compare(bits | 1 << 31, &|| format!("the floats around -{below}.5 mm"))?;
+            run.compare(&EDITIONS, bits, &|| format!("the floats around {below}.5 mm"))?;
+            run.compare(&EDITIONS, bits | 1 << 31, &|| format!("the floats around -{below}.5 mm"))?;
         }
     }
     let mut random = Random::new(first_seed);
     for _ in 0..at_least {
-        compare(float_bits(&mut random), &|| format!("the floats of seed {first_seed}"))?;
+        let (bits, wrong) = (float_bits(&mut random), wrong_edition(&mut random));
+        run.compare(&[1, 2, wrong], bits, &|| format!("the floats of seed {first_seed}"))?;
     }
-    Ok(done)
+    Ok(run.done)
 }
 
 /// Every split A, B of so many short captures: the subject against the reader on A, and demand 3 on the subject's own

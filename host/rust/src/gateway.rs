@@ -11,7 +11,7 @@ use crate::abi::{Judgement, Millimetres, Reading, Subject};
 
 extern "C" {
     fn vq_judge(dialect: u32, bytes: *const u8, count: usize, offset: usize) -> Judgement;
-    fn vq_millimetres(bits: u32) -> Millimetres;
+    fn vq_millimetres(edition: u32, bits: u32) -> Millimetres;
 }
 
 extern "C" {
@@ -36,12 +36,12 @@ extern "C" {
     fn vq_header(kind: u32, packet: *const u8, count: usize) -> Header;
     fn vq_record(kind: u32, packet: *const u8, count: usize, index: usize) -> Record;
     fn vq_step(kind: u32, packet: *const u8, count: usize, place: usize) -> Step;
-    fn vq_point(packet: *const u8, count: usize, index: usize) -> Point;
+    fn vq_point(edition: u32, packet: *const u8, count: usize, index: usize) -> Point;
     fn vq_read_command(bytes: *const u8, count: usize) -> Command;
     fn vq_write_command(output: *mut u8, room: usize, command: Command) -> Written;
     fn vq_read_data(frame: *const u8, count: usize) -> DataFrame;
     fn vq_read_targets(frame: *const u8, count: usize) -> TargetFrame;
-    fn vq_read_status(frame: *const u8, count: usize) -> StatusFrame;
+    fn vq_read_status(edition: u32, frame: *const u8, count: usize) -> StatusFrame;
     fn vq_read_error(frame: *const u8, count: usize) -> ErrorFrame;
     fn vq_write_data(output: *mut u8, room: usize, kind: u32, content: *const u8, count: usize) -> Written;
     fn vq_write_targets(output: *mut u8, room: usize, frame: TargetFrame) -> Written;
@@ -68,9 +68,9 @@ impl Subject for Gateway {
         unsafe { vq_judge(dialect, bytes.as_ptr(), bytes.len(), place) }
     }
 
-    fn millimetres(&self, bits: u32) -> Millimetres {
+    fn millimetres(&self, edition: u32, bits: u32) -> Millimetres {
         // SAFETY: numbers only.
-        unsafe { vq_millimetres(bits) }
+        unsafe { vq_millimetres(edition, bits) }
     }
 
     fn open_reading(&self, dialect: u32, bytes: &[u8], table: &mut [u32]) -> Reading {
@@ -109,8 +109,8 @@ impl FieldSubject for Gateway {
         unsafe { vq_step(kind, packet.as_ptr(), packet.len(), place) }
     }
 
-    fn point(&self, packet: &[u8], index: usize) -> Point {
-        unsafe { vq_point(packet.as_ptr(), packet.len(), index) }
+    fn point(&self, edition: u32, packet: &[u8], index: usize) -> Point {
+        unsafe { vq_point(edition, packet.as_ptr(), packet.len(), index) }
     }
 
     fn read_command(&self, bytes: &[u8]) -> Command {
@@ -129,8 +129,8 @@ impl FieldSubject for Gateway {
         unsafe { vq_read_targets(frame.as_ptr(), frame.len()) }
     }
 
-    fn read_status(&self, frame: &[u8]) -> StatusFrame {
-        unsafe { vq_read_status(frame.as_ptr(), frame.len()) }
+    fn read_status(&self, edition: u32, frame: &[u8]) -> StatusFrame {
+        unsafe { vq_read_status(edition, frame.as_ptr(), frame.len()) }
     }
 
     fn read_error(&self, frame: &[u8]) -> ErrorFrame {

@@ -23,6 +23,8 @@ pub const NO_POINTS: Refusal = 7;
 pub const NOT_FINITE: Refusal = 30;
 /// 31: the float's magnitude is over 1000 m.
 pub const TOO_FAR: Refusal = 31;
+/// 32: an edition other than 1 and 2.
+pub const UNKNOWN_EDITION: Refusal = 32;
 /// 40: a command of under 4 bytes.
 pub const NO_HEADER_WORD: Refusal = 40;
 /// 41: a rest bit of the header word is set.

@@ -94,8 +94,9 @@ fn mmwave_points() {
     let reading = closed_reading(MMWAVE, &made, &mut table).unwrap();
     assert_eq!(reading.rows, 8);
     let [place, length] = [0, 1].map(|index| table[index] as usize);
-    let first = point(&made[place..place + length], 0);
-    assert_eq!(first, Ok(Point { x: 63, y: -63, z: 1500, doppler: 0 }));
+    let first = |edition| point(edition, &made[place..place + length], 0);
+    assert_eq!(first(1), Ok(Point { x: 63, y: -63, z: 1500, doppler: 0 }));
+    assert_eq!(first(2), Ok(Point { x: 62, y: -62, z: 1500, doppler: 0 }));
 }
 
 #[test]

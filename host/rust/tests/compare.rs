@@ -3,11 +3,15 @@
 //! The library is compared if `VQ_LIB_DIR` names the directory that holds the archives. `VQ_SEED` gives another first
 //! seed than the usual one.
 
+mod editions;
+
+use editions::{is_wrong, Renaming, OTHER_EDITIONS};
 use radar_reference::abi::{Judgement, Millimetres, Reading, Reference, Subject, BAD, WAITING, WHOLE};
 use radar_reference::compare::{
     check_capture, compare_judgements, compare_millimetres, compare_readings, compare_splits, Difference, Tally,
 };
 use radar_reference::judgement;
+use radar_reference::numbers::EDITIONS;
 use radar_reference::packet_rules::{Lengths, Rules};
 use radar_reference::reading::ROW;
 use radar_reference::{mmwave, vital_signs};
@@ -106,6 +110,10 @@ fn the_splits_that_are_compared_are_many() {
     assert!(splits >= 10_000);
 }
 
+/// The millimetres by an edition, of a float's bits.
+type Conversion = fn(u32, u32) -> Millimetres;
+type Rounding = fn(f64) -> f64;
+
 /// The reader with one function replaced.
 #[derive(Clone, Copy)]
 enum Wrong {
@@ -113,7 +121,13 @@ enum Wrong {
     JudgeAt(fn(u32, &[u8], usize) -> Judgement),
     /// Vital signs by these rules.
     Rules(Rules),
-    Millimetres(fn(u32) -> Millimetres),
+    Millimetres(Conversion),
+    /// The same by this edition only.
+    ByEdition(u32, Conversion),
+    /// 1000 times the float rounded so by this edition, with the right refusals.
+    Rounds(u32, Rounding),
+    /// Another edition for the one named.
+    Edition(Renaming),
     Read(fn(bool, u32, &[u8], &mut [u32]) -> Reading),
 }
 
@@ -128,10 +142,16 @@ impl Subject for Wrong {
         }
     }
 
-    fn millimetres(&self, bits: u32) -> Millimetres {
+    fn millimetres(&self, edition: u32, bits: u32) -> Millimetres {
+        let right = Reference.millimetres(edition, bits);
         match self {
-            Wrong::Millimetres(millimetres) => millimetres(bits),
-            _ => Reference.millimetres(bits),
+            Wrong::Millimetres(millimetres) => millimetres(edition, bits),
+            Wrong::ByEdition(by, millimetres) if edition == *by => millimetres(edition, bits),
+            Wrong::Rounds(by, round) if edition == *by && right.refusal == 0 => {
+                Millimetres { refusal: 0, value: round(f64::from(f32::from_bits(bits)) * 1000.0) as i32 }
+            }
+            Wrong::Edition(other) => Reference.millimetres(other(edition), bits),
+            _ => right,
         }
     }
 
@@ -833,70 +853,151 @@ fn a_difference_tells_its_seed_and_bytes_and_comes_again() {
     assert!(check_capture(&Reference, 0, &difference.bytes).is_ok());
 }
 
-/// Rounds as told, with the right refusals.
-fn rounded(bits: u32, round: fn(f64) -> f64) -> Millimetres {
-    match Reference.millimetres(bits) {
-        right if right.refusal != 0 => right,
-        _ => Millimetres { refusal: 0, value: round(f64::from(f32::from_bits(bits)) * 1000.0) as i32 },
+fn to_odd(value: f64) -> f64 {
+    let below = value.floor();
+    match value - below == 0.5 {
+        true if below % 2.0 == 0.0 => below + 1.0,
+        true => below,
+        false => value.round(),
     }
 }
 
-const WRONG_MILLIMETRES: &[(&str, Wrong)] = &[
-    ("halves to even", Wrong::Millimetres(|bits| rounded(bits, f64::round_ties_even))),
-    ("halves up", Wrong::Millimetres(|bits| rounded(bits, |value| (value + 0.5).floor()))),
-    (
-        "halves towards zero",
-        Wrong::Millimetres(|bits| rounded(bits, |value| (value.abs() - 0.5).ceil().copysign(value))),
-    ),
-    ("truncated", Wrong::Millimetres(|bits| rounded(bits, f64::trunc))),
-    (
-        "multiplied as a short float",
-        Wrong::Millimetres(|bits| rounded(bits, |value| f64::from(((value / 1000.0) as f32 * 1000.0).round()))),
-    ),
-    (
-        "the limit is refused",
-        Wrong::Millimetres(|bits| match Reference.millimetres(bits) {
-            right if right.value.abs() == 1_000_000 => Millimetres { refusal: 31, value: 0 },
-            right => right,
-        }),
-    ),
-    (
-        "the limit is on the rounded value",
-        Wrong::Millimetres(|bits| match (Reference.millimetres(bits), f32::from_bits(bits)) {
+/// What is near a half is made one.
+fn half_if_near(value: f64) -> f64 {
+    let half = value.floor() + 0.5;
+    if (value - half).abs() < 1e-3 {
+        half
+    } else {
+        value
+    }
+}
+
+/// The product as a float of 32 bits.
+fn short(value: f64) -> f64 {
+    f64::from((value / 1000.0) as f32 * 1000.0)
+}
+
+/// 1000 times the float without its last bit.
+fn without_last_bit(value: f64) -> f64 {
+    1000.0 * f64::from(f32::from_bits(((value / 1000.0) as f32).to_bits() & !1))
+}
+
+/// The wrong roundings and the editions in which they are wrong.
+const WRONG_ROUNDINGS: &[(&str, &[u32], Rounding)] = &[
+    ("halves to even", &[1], f64::round_ties_even),
+    ("halves away from zero", &[2], f64::round),
+    ("halves up", &EDITIONS, |value| (value + 0.5).floor()),
+    ("halves down", &EDITIONS, |value| (value - 0.5).ceil()),
+    ("halves towards zero", &EDITIONS, |value| (value.abs() - 0.5).ceil().copysign(value)),
+    ("halves to odd", &EDITIONS, to_odd),
+    ("to even above zero, away below", &EDITIONS, |v| if v > 0.0 { v.round_ties_even() } else { v.round() }),
+    ("to even below zero, away above", &EDITIONS, |v| if v < 0.0 { v.round_ties_even() } else { v.round() }),
+    ("to even below 1 m, away beyond", &EDITIONS, |v| if v.abs() < 1e3 { v.round_ties_even() } else { v.round() }),
+    ("to even from 1 m on, away before", &EDITIONS, |v| if v.abs() < 1e3 { v.round() } else { v.round_ties_even() }),
+    ("the last halves away", &[2], |v| if v.abs() < 999_800.0 { v.round_ties_even() } else { v.round() }),
+    ("the last halves to even", &[1], |v| if v.abs() < 999_800.0 { v.round() } else { v.round_ties_even() }),
+    ("truncated", &EDITIONS, f64::trunc),
+    ("whatever is over a half to even", &[2], |value| {
+        let whole = value.abs().trunc();
+        (if value.abs() - whole < 0.5 { whole } else { whole + whole % 2.0 }).copysign(value)
+    }),
+    ("multiplied as a short float", &EDITIONS, |value| short(value).round()),
+    ("multiplied as a short float, halves to even", &EDITIONS, |value| short(value).round_ties_even()),
+    ("near a half is one", &[1], |value| half_if_near(value).round()),
+    ("near a half is one, to even", &[2], |value| half_if_near(value).round_ties_even()),
+    ("tenths first", &[1], |value| ((value * 10.0).round() / 10.0).round()),
+    ("tenths first, halves to even", &[2], |value| ((value * 10.0).round() / 10.0).round_ties_even()),
+    ("the float's last bit is lost", &[1], |value| without_last_bit(value).round()),
+    ("the float's last bit is lost, halves to even", &[2], |value| without_last_bit(value).round_ties_even()),
+];
+
+/// Wrong by one edition or by the other.
+const WRONG_MILLIMETRES: &[(&str, Conversion)] = &[
+    ("the limit is refused", |edition, bits| match Reference.millimetres(edition, bits) {
+        right if right.value.abs() == 1_000_000 => Millimetres { refusal: 31, value: 0 },
+        right => right,
+    }),
+    ("the limit is on the rounded value", |edition, bits| {
+        match (Reference.millimetres(edition, bits), f32::from_bits(bits)) {
             (right, value) if right.refusal == 31 && value.abs() < 1000.0004 => {
                 Millimetres { refusal: 0, value: 1_000_000_f32.copysign(value) as i32 }
             }
             (right, _) => right,
+        }
+    }),
+    ("infinite is too far", |edition, bits| match Reference.millimetres(edition, bits) {
+        right if f32::from_bits(bits).is_infinite() => Millimetres { refusal: 31, ..right },
+        right => right,
+    }),
+    ("the sign is lost", |edition, bits| {
+        let right = Reference.millimetres(edition, bits);
+        Millimetres { value: right.value.abs(), ..right }
+    }),
+    ("short numbers are refused", |edition, bits| match f32::from_bits(bits) {
+        value if value.is_subnormal() => Millimetres { refusal: 30, value: 0 },
+        _ => Reference.millimetres(edition, bits),
+    }),
+    ("a refused float leaves a value", |edition, bits| match Reference.millimetres(edition, bits) {
+        right if right.refusal != 0 => Millimetres { value: 1_000_000, ..right },
+        right => right,
+    }),
+];
+
+/// What edition 1 answers, if the edition is none and the answer is such.
+fn by_edition_1(edition: u32, bits: u32, if_such: fn(Millimetres) -> bool) -> Millimetres {
+    match Reference.millimetres(1, bits) {
+        answer if is_wrong(edition) && if_such(answer) => answer,
+        _ => Reference.millimetres(edition, bits),
+    }
+}
+
+const WRONG_EDITIONS: &[(&str, Wrong)] = &[
+    ("30 goes before 32", Wrong::Millimetres(|e, bits| by_edition_1(e, bits, |answer| answer.refusal == 30))),
+    ("31 goes before 32", Wrong::Millimetres(|e, bits| by_edition_1(e, bits, |answer| answer.refusal == 31))),
+    (
+        "0 is 0 by any edition",
+        Wrong::Millimetres(|e, bits| by_edition_1(e, bits, |answer| answer == Millimetres::default())),
+    ),
+    (
+        "an edition is refused only at a half",
+        Wrong::Millimetres(|edition, bits| match EDITIONS.map(|edition| Reference.millimetres(edition, bits)) {
+            [first, second] if is_wrong(edition) && first == second => first,
+            _ => Reference.millimetres(edition, bits),
         }),
     ),
     (
-        "infinite is too far",
-        Wrong::Millimetres(|bits| match Reference.millimetres(bits) {
-            right if f32::from_bits(bits).is_infinite() => Millimetres { refusal: 31, ..right },
+        "32 leaves the value",
+        Wrong::Millimetres(|edition, bits| match Reference.millimetres(edition, bits) {
+            right if right.refusal == 32 => Millimetres { refusal: 32, ..Reference.millimetres(1, bits) },
             right => right,
         }),
     ),
     (
-        "the sign is lost",
-        Wrong::Millimetres(|bits| {
-            let right = Reference.millimetres(bits);
-            Millimetres { value: right.value.abs(), ..right }
-        }),
-    ),
-    (
-        "short numbers are refused",
-        Wrong::Millimetres(|bits| match f32::from_bits(bits) {
-            value if value.is_subnormal() => Millimetres { refusal: 30, value: 0 },
-            _ => Reference.millimetres(bits),
+        "32 is told as 30",
+        Wrong::Millimetres(|edition, bits| match Reference.millimetres(edition, bits) {
+            right if right.refusal == 32 => Millimetres { refusal: 30, ..right },
+            right => right,
         }),
     ),
 ];
 
 #[test]
 fn wrong_millimetres_are_found() {
-    for (name, wrong) in WRONG_MILLIMETRES {
-        let found = compare_millimetres(wrong, first_seed(), CONVERSIONS);
+    let assert_found = |name: &str, wrong: Wrong| {
+        let found = compare_millimetres(&wrong, first_seed(), CONVERSIONS);
         assert!(found.is_err(), "not found: {name}");
+    };
+    for &(name, editions, round) in WRONG_ROUNDINGS {
+        editions.iter().for_each(|&edition| assert_found(name, Wrong::Rounds(edition, round)));
+    }
+    for &(name, millimetres) in WRONG_MILLIMETRES {
+        EDITIONS.iter().for_each(|&edition| assert_found(name, Wrong::ByEdition(edition, millimetres)));
+    }
+    for &(name, other) in OTHER_EDITIONS {
+        assert_found(name, Wrong::Edition(other));
+    }
+    for &(name, wrong) in WRONG_EDITIONS {
+        assert_found(name, wrong);
     }
     let conversions = agreed(compare_millimetres(&Reference, first_seed(), CONVERSIONS));
     println!("conversions: {conversions}");

@@ -4,6 +4,9 @@
 //! The library is compared if `VQ_LIB_DIR` names the directory that holds `libvellanquor.a`. `VQ_SEED` gives another first
 //! seed than the usual one.
 
+mod editions;
+
+use editions::{is_wrong, Renaming, OTHER_EDITIONS};
 use radar_reference::abi::fields::{
     Command, DataFrame, ErrorFrame, FieldSubject, Header, Point, Record, StatusFrame, Step, Target, TargetFrame,
     Written,
@@ -14,6 +17,9 @@ use radar_reference::compare::fields::{
     compare_written_frames,
 };
 use radar_reference::compare::{Difference, Tally};
+use radar_reference::generate::mmwave::packet_of_points;
+use radar_reference::generate::random::Random;
+use radar_reference::numbers::EDITIONS;
 
 /// A comparison from a first seed on, over so many frames, packets or commands.
 type Comparison = fn(&dyn FieldSubject, u64, u64) -> Result<Tally, Difference>;
@@ -41,6 +47,8 @@ const FRAMES: Run = Run {
         ("write_targets again", 10_000),
         ("read_status", 10_000),
         ("read_status, refused 5", 100_000),
+        ("read_status, refused 32", 10_000),
+        ("read_status, the editions differ", 3700),
         ("read_error", 10_000),
         ("read_error, refused 5", 100_000),
     ],
@@ -80,6 +88,8 @@ const PACKETS: Run = Run {
         ("point, refused 7", 5000),
         ("point, refused 30", 500),
         ("point, refused 31", 500),
+        ("point, refused 32", 5000),
+        ("point, the editions differ", 1000),
     ],
 };
 
@@ -200,7 +210,8 @@ mod library {
 }
 
 /// The packets at the edges, and slices that are none: what the program packet_cases reads, each behind its length; then
-/// vital-signs packets, among them the least and one of both dialects, and each without its last byte.
+/// vital-signs packets, among them the least and one of both dialects, and each without its last byte; then points at
+/// halves and beside them, and with coordinates that are refused.
 fn slices() -> Vec<Vec<u8>> {
     let file = concat!(env!("CARGO_MANIFEST_DIR"), "/../../crates/packet_cases/stdin");
     let bytes = std::fs::read(file).expect(file);
@@ -215,6 +226,13 @@ fn slices() -> Vec<Vec<u8>> {
         slices.push(packet[..packet.len() - 1].to_vec());
         slices.push(packet);
     }
+    let halves = (1..400u16).step_by(2).map(|sixteenths| f32::from(sixteenths) / 16.0);
+    let beside = |half: f32| [f32::from_bits(half.to_bits() - 1), -half, f32::from_bits(half.to_bits() + 1), half];
+    let halves: Vec<[f32; 4]> =
+        halves.flat_map(|half| [[half, -half - 1.0, half + 1.0, -half], beside(half)]).collect();
+    slices.push(packet_of_points(&mut Random::new(1), &halves));
+    let refused = [[f32::INFINITY, 0.0625, 0.0625, 7.0], [0.0625, 1000.5, 0.0, 7.0], [0.0625, 0.0625, f32::NAN, 7.0]];
+    slices.push(packet_of_points(&mut Random::new(1), &refused));
     slices
 }
 
@@ -232,14 +250,18 @@ fn vital_signs_packet(records: &[(u32, usize)]) -> Vec<u8> {
     bytes
 }
 
+fn subjects() -> Vec<&'static dyn FieldSubject> {
+    vec![
+        &Reference,
+        #[cfg(gateway_linked)]
+        &radar_reference::gateway::Gateway,
+    ]
+}
+
 /// The numbers of a vital-signs packet, worked out by hand, of the reader and of the library.
 #[test]
 fn a_vital_signs_packet_is_read_of_kind_17() {
-    #[allow(unused_mut)]
-    let mut subjects: Vec<Box<dyn FieldSubject>> = vec![Box::new(Reference)];
-    #[cfg(gateway_linked)]
-    subjects.push(Box::new(radar_reference::gateway::Gateway));
-    for subject in subjects {
+    for subject in subjects() {
         let packet = vital_signs_packet(&[(1, 24), (2, 8), (3, 16), (4, 20)]);
         assert_eq!(packet.len(), 140);
         let header = Header {
@@ -259,7 +281,7 @@ fn a_vital_signs_packet_is_read_of_kind_17() {
         assert_eq!(subject.record(17, &packet, 4), Record { refusal: 6, ..Record::default() });
         assert_eq!(subject.step(17, &packet, 72), Step { refusal: 0, tag: 2, start: 80, length: 8, next: 88 });
         assert_eq!(subject.step(17, &packet, 140), Step { refusal: 6, next: 140, ..Step::default() });
-        assert_eq!(subject.point(&packet, 0), Point { refusal: 5, ..Point::default() });
+        assert_eq!(subject.point(1, &packet, 0), Point { refusal: 5, ..Point::default() });
         for kind in [0, 1, 2, 15, 16, 18, 273, u32::MAX] {
             assert_eq!(subject.header(kind, &packet), Header { refusal: 5, ..Header::default() });
             assert_eq!(subject.record(kind, &packet, 9), Record { refusal: 5, ..Record::default() });
@@ -272,7 +294,33 @@ fn a_vital_signs_packet_is_read_of_kind_17() {
             assert_eq!(subject.record(kind, &both, 0), Record { refusal: 0, tag: 2, start: 48, length: 16 });
             assert_eq!(subject.step(kind, &both, 40), Step { refusal: 0, tag: 2, start: 48, length: 16, next: 64 });
         }
-        assert_eq!(subject.point(&both, 0), Point { refusal: 7, ..Point::default() });
+        assert_eq!(subject.point(1, &both, 0), Point { refusal: 7, ..Point::default() });
+    }
+}
+
+/// Points by each edition, worked out by hand, of the reader and of the library.
+#[test]
+fn a_point_is_read_by_the_edition() {
+    let refused = |refusal| Point { refusal, ..Point::default() };
+    let doppler = 0.25f32.to_bits();
+    let rows = [[0.0625, -0.0625, 0.1875, 0.25], [-0.3125, 999.9375, -999.8125, 0.25], [0.0, 1000.5, 0.0, 0.25]];
+    let packet = packet_of_points(&mut Random::new(1), &rows);
+    for subject in subjects() {
+        assert_eq!(subject.point(1, &packet, 0), Point { refusal: 0, x: 63, y: -63, z: 188, doppler });
+        assert_eq!(subject.point(2, &packet, 0), Point { refusal: 0, x: 62, y: -62, z: 188, doppler });
+        assert_eq!(subject.point(1, &packet, 1), Point { refusal: 0, x: -313, y: 999_938, z: -999_813, doppler });
+        assert_eq!(subject.point(2, &packet, 1), Point { refusal: 0, x: -312, y: 999_938, z: -999_812, doppler });
+        for edition in EDITIONS {
+            assert_eq!(subject.point(edition, &packet, 2), refused(31));
+        }
+        for edition in [0, 3, 4, 255, 256, 257, 258, 1 << 16 | 1, 1 << 31 | 2, u32::MAX] {
+            for index in 0..3 {
+                assert_eq!(subject.point(edition, &packet, index), refused(32), "{edition}, {index}");
+            }
+            assert_eq!(subject.point(edition, &packet, 3), refused(6), "{edition}");
+            assert_eq!(subject.point(edition, &packet_of_points(&mut Random::new(1), &[]), 0), refused(7), "{edition}");
+            assert_eq!(subject.point(edition, &packet[1..], 0), refused(5), "{edition}");
+        }
     }
 }
 
@@ -285,12 +333,17 @@ fn what_is_compared_covers_all_answers() {
     }
 }
 
-/// The reader with one function replaced.
+/// The reader with one function replaced, or with another edition for the one named in those of the second list.
 macro_rules! wrong {
-    ($($variant:ident $function:ident ($($argument:ident: $type:ty),*) -> $answer:ty;)*) => {
+    (
+        $($variant:ident $function:ident ($($argument:ident: $type:ty),*) -> $answer:ty;)*
+        { $($by:ident $by_edition:ident ($($other:ident: $other_type:ty),*) -> $other_answer:ty;)* }
+    ) => {
         #[derive(Clone, Copy)]
         enum Wrong {
             $($variant(fn($($type),*) -> $answer),)*
+            $($by(fn(u32, $($other_type),*) -> $other_answer),)*
+            Edition(Renaming),
         }
 
         impl FieldSubject for Wrong {
@@ -298,6 +351,13 @@ macro_rules! wrong {
                 match self {
                     Wrong::$variant(wrong) => wrong($($argument),*),
                     _ => Reference.$function($($argument),*),
+                }
+            })*
+            $(fn $by_edition(&self, edition: u32, $($other: $other_type),*) -> $other_answer {
+                match self {
+                    Wrong::$by(wrong) => wrong(edition, $($other),*),
+                    Wrong::Edition(other) => Reference.$by_edition(other(edition), $($other),*),
+                    _ => Reference.$by_edition(edition, $($other),*),
                 }
             })*
         }
@@ -308,17 +368,19 @@ wrong! {
     Header header(kind: u32, packet: &[u8]) -> Header;
     Record record(kind: u32, packet: &[u8], index: usize) -> Record;
     Step step(kind: u32, packet: &[u8], place: usize) -> Step;
-    Point point(packet: &[u8], index: usize) -> Point;
     ReadCommand read_command(bytes: &[u8]) -> Command;
     WriteCommand write_command(output: &mut [u8], command: Command) -> Written;
     ReadData read_data(frame: &[u8]) -> DataFrame;
     ReadTargets read_targets(frame: &[u8]) -> TargetFrame;
-    ReadStatus read_status(frame: &[u8]) -> StatusFrame;
     ReadError read_error(frame: &[u8]) -> ErrorFrame;
     WriteData write_data(output: &mut [u8], kind: u32, content: &[u8]) -> Written;
     WriteTargets write_targets(output: &mut [u8], frame: TargetFrame) -> Written;
     WriteStatus write_status(output: &mut [u8], status: StatusFrame) -> Written;
     WriteError write_error(output: &mut [u8], flags: u16) -> Written;
+    {
+        Point point(packet: &[u8], index: usize) -> Point;
+        ReadStatus read_status(frame: &[u8]) -> StatusFrame;
+    }
 }
 
 fn word(bytes: &[u8], place: usize) -> Option<u32> {
@@ -390,19 +452,19 @@ const WRONG_PACKETS: &[(&str, Wrong)] = &[
         }),
     ),
     ("a step from anywhere gives the first record", Wrong::Step(|kind, p, _| Reference.step(kind, p, 40))),
-    ("a point's index has 32 bits", Wrong::Point(|p, index| Reference.point(p, index as u32 as usize))),
+    ("a point's index has 32 bits", Wrong::Point(|e, p, index| Reference.point(e, p, index as u32 as usize))),
     (
         "points come from the last record of type 1",
-        Wrong::Point(|p, index| {
+        Wrong::Point(|e, p, index| {
             let starts = starts_of(p, 1);
             let others = starts.split_last().map_or(&[][..], |(_, others)| others);
             let changed = others.iter().fold(p.to_vec(), |bytes, &start| word_with(&bytes, start, |_| 10));
-            Reference.point(&changed, index)
+            Reference.point(e, &changed, index)
         }),
     ),
     (
         "6 goes before 7",
-        Wrong::Point(|p, index| match Reference.point(p, index) {
+        Wrong::Point(|e, p, index| match Reference.point(e, p, index) {
             right if right.refusal == 7 && index >= Reference.header(16, p).objects as usize => {
                 Point { refusal: 6, ..right }
             }
@@ -411,7 +473,7 @@ const WRONG_PACKETS: &[(&str, Wrong)] = &[
     ),
     (
         "30 goes before 31",
-        Wrong::Point(|p, index| match (Reference.point(p, index), starts_of(p, 1).first()) {
+        Wrong::Point(|e, p, index| match (Reference.point(e, p, index), starts_of(p, 1).first()) {
             (right, Some(&start)) if right.refusal == 31 => {
                 let coordinates = [8, 12, 16].map(|offset| word(p, start + offset + 16 * index).unwrap_or(0));
                 let none = coordinates.iter().any(|bits| bits & 0x7F80_0000 == 0x7F80_0000);
@@ -422,15 +484,15 @@ const WRONG_PACKETS: &[(&str, Wrong)] = &[
     ),
     (
         "Doppler is judged too",
-        Wrong::Point(|p, index| match Reference.point(p, index) {
+        Wrong::Point(|e, p, index| match Reference.point(e, p, index) {
             right if f32::from_bits(right.doppler).is_nan() => Point { refusal: 30, ..Point::default() },
             right => right,
         }),
     ),
     (
         "X and Z change places",
-        Wrong::Point(|p, index| {
-            let right = Reference.point(p, index);
+        Wrong::Point(|e, p, index| {
+            let right = Reference.point(e, p, index);
             Point { x: right.z, z: right.x, ..right }
         }),
     ),
@@ -499,7 +561,7 @@ const WRONG_PACKETS: &[(&str, Wrong)] = &[
     ),
     (
         "points are read of kind 17",
-        Wrong::Point(|p, index| match Reference.point(p, index) {
+        Wrong::Point(|e, p, index| match Reference.point(e, p, index) {
             right if right.refusal == 5 && Reference.header(17, p).refusal == 0 => Point { refusal: 7, ..right },
             right => right,
         }),
@@ -802,15 +864,15 @@ const WRONG_FRAMES: &[(&str, Wrong)] = &[
     ),
     (
         "the accuracy is cut off to millimetres",
-        Wrong::ReadStatus(|f| {
-            let right = Reference.read_status(f);
+        Wrong::ReadStatus(|e, f| {
+            let right = Reference.read_status(e, f);
             StatusFrame { accuracy_mm: right.accuracy / 10, ..right }
         }),
     ),
     (
         "max range and ramp time change places",
-        Wrong::ReadStatus(|f| {
-            let right = Reference.read_status(f);
+        Wrong::ReadStatus(|e, f| {
+            let right = Reference.read_status(e, f);
             StatusFrame { max_range: right.ramp_time, ramp_time: right.max_range, ..right }
         }),
     ),
@@ -818,10 +880,232 @@ const WRONG_FRAMES: &[(&str, Wrong)] = &[
     (
         "a frame of another kind has no flags",
         Wrong::ReadError(|f| match Reference.read_error(f) {
-            right if Reference.read_status(f).refusal == 0 => ErrorFrame { refusal: 0, ..right },
+            right if Reference.read_status(1, f).refusal == 0 => ErrorFrame { refusal: 0, ..right },
             right => right,
         }),
     ),
+];
+
+/// A point whose coordinates are rounded so by one edition.
+fn rounded_point(by: u32, (edition, packet, index): (u32, &[u8], usize), round: fn(f64) -> f64) -> Point {
+    match Reference.point(edition, packet, index) {
+        right if right.refusal == 0 && edition == by => {
+            let start = starts_of(packet, 1)[0] + 8 + 16 * index;
+            let metres = [0, 4, 8].map(|offset| f32::from_bits(word(packet, start + offset).unwrap_or(0)));
+            let [x, y, z] = metres.map(|metres| round(1000.0 * f64::from(metres)) as i32);
+            Point { x, y, z, ..right }
+        }
+        right => right,
+    }
+}
+
+/// A point by one edition of which a part is by the other one.
+fn mixed_point(by: u32, (edition, packet, index): (u32, &[u8], usize), mix: fn(Point, Point) -> Point) -> Point {
+    match Reference.point(edition, packet, index) {
+        right if edition == by => mix(right, Reference.point(3 - by, packet, index)),
+        right => right,
+    }
+}
+
+/// What edition 1 answers, if the edition is none and the answer is such.
+fn point_by_edition_1((edition, packet, index): (u32, &[u8], usize), if_such: fn(Point) -> bool) -> Point {
+    match Reference.point(1, packet, index) {
+        answer if is_wrong(edition) && if_such(answer) => answer,
+        _ => Reference.point(edition, packet, index),
+    }
+}
+
+/// The right answer, but 32 for one that is refused so by an edition that is none.
+fn point_refused_before(refusal: u32, (edition, packet, index): (u32, &[u8], usize)) -> Point {
+    match Reference.point(edition, packet, index) {
+        right if right.refusal == refusal && is_wrong(edition) => Point { refusal: 32, ..right },
+        right => right,
+    }
+}
+
+/// The right answer, with something else where it is 32.
+fn point_if_32((edition, packet, index): (u32, &[u8], usize), change: fn(Point, Point) -> Point) -> Point {
+    match Reference.point(edition, packet, index) {
+        right if right.refusal == 32 => change(right, Reference.point(1, packet, index)),
+        right => right,
+    }
+}
+
+const WRONG_POINTS: &[(&str, Wrong)] = &[
+    ("halves to even by edition 1", Wrong::Point(|e, p, index| rounded_point(1, (e, p, index), f64::round_ties_even))),
+    ("halves away from zero by edition 2", Wrong::Point(|e, p, index| rounded_point(2, (e, p, index), f64::round))),
+    ("halves up by edition 1", Wrong::Point(|e, p, index| rounded_point(1, (e, p, index), |v| (v + 0.5).floor()))),
+    ("halves up by edition 2", Wrong::Point(|e, p, index| rounded_point(2, (e, p, index), |v| (v + 0.5).floor()))),
+    ("halves down by edition 2", Wrong::Point(|e, p, index| rounded_point(2, (e, p, index), |v| (v - 0.5).ceil()))),
+    (
+        "halves towards zero by edition 2",
+        Wrong::Point(|e, p, index| rounded_point(2, (e, p, index), |v| (v.abs() - 0.5).ceil().copysign(v))),
+    ),
+    (
+        "halves to even above zero only",
+        Wrong::Point(|e, p, index| {
+            rounded_point(2, (e, p, index), |v| if v > 0.0 { v.round_ties_even() } else { v.round() })
+        }),
+    ),
+    (
+        "multiplied as a short float by edition 2",
+        Wrong::Point(|e, p, index| {
+            rounded_point(2, (e, p, index), |v| f64::from(((v / 1000.0) as f32 * 1000.0).round_ties_even()))
+        }),
+    ),
+    (
+        "X is by edition 1",
+        Wrong::Point(|e, p, index| mixed_point(2, (e, p, index), |p, by_1| Point { x: by_1.x, ..p })),
+    ),
+    (
+        "Y is by edition 1",
+        Wrong::Point(|e, p, index| mixed_point(2, (e, p, index), |p, by_1| Point { y: by_1.y, ..p })),
+    ),
+    (
+        "Z is by edition 1",
+        Wrong::Point(|e, p, index| mixed_point(2, (e, p, index), |p, by_1| Point { z: by_1.z, ..p })),
+    ),
+    (
+        "X is by edition 2",
+        Wrong::Point(|e, p, index| mixed_point(1, (e, p, index), |p, by_2| Point { x: by_2.x, ..p })),
+    ),
+    (
+        "Y is by edition 2",
+        Wrong::Point(|e, p, index| mixed_point(1, (e, p, index), |p, by_2| Point { y: by_2.y, ..p })),
+    ),
+    (
+        "Z is by edition 2",
+        Wrong::Point(|e, p, index| mixed_point(1, (e, p, index), |p, by_2| Point { z: by_2.z, ..p })),
+    ),
+    (
+        "the edition is that of the first point only",
+        Wrong::Point(|e, p, index| Reference.point(if e == 2 && index > 0 { 1 } else { e }, p, index)),
+    ),
+    ("32 goes before 5", Wrong::Point(|e, p, index| point_refused_before(5, (e, p, index)))),
+    ("32 goes before 7", Wrong::Point(|e, p, index| point_refused_before(7, (e, p, index)))),
+    ("32 goes before 6", Wrong::Point(|e, p, index| point_refused_before(6, (e, p, index)))),
+    ("30 goes before 32", Wrong::Point(|e, p, index| point_by_edition_1((e, p, index), |answer| answer.refusal == 30))),
+    ("31 goes before 32", Wrong::Point(|e, p, index| point_by_edition_1((e, p, index), |answer| answer.refusal == 31))),
+    (
+        "an edition is refused only at a half",
+        Wrong::Point(|e, p, index| match EDITIONS.map(|edition| Reference.point(edition, p, index)) {
+            [first, second] if is_wrong(e) && first == second => first,
+            _ => Reference.point(e, p, index),
+        }),
+    ),
+    (
+        "32 leaves the point",
+        Wrong::Point(|e, p, index| point_if_32((e, p, index), |_, by_1| Point { refusal: 32, ..by_1 })),
+    ),
+    (
+        "32 leaves the Doppler velocity",
+        Wrong::Point(|e, p, index| point_if_32((e, p, index), |p, by_1| Point { doppler: by_1.doppler, ..p })),
+    ),
+    ("32 is told as 6", Wrong::Point(|e, p, index| point_if_32((e, p, index), |p, _| Point { refusal: 6, ..p }))),
+];
+
+/// A U frame whose accuracy in millimetres is another by one edition; the change is told the millimetres and the tenths over.
+fn accuracy_with(by: u32, (edition, frame): (u32, &[u8]), change: fn(u16, u16) -> u16) -> StatusFrame {
+    match Reference.read_status(edition, frame) {
+        right if right.refusal == 0 && edition == by => {
+            StatusFrame { accuracy_mm: change(right.accuracy / 10, right.accuracy % 10), ..right }
+        }
+        right => right,
+    }
+}
+
+/// The right answer, with something else where it is 32; the change is told what edition 1 answers.
+fn status_if_32((edition, frame): (u32, &[u8]), change: fn(StatusFrame, StatusFrame) -> StatusFrame) -> StatusFrame {
+    match Reference.read_status(edition, frame) {
+        right if right.refusal == 32 => change(right, Reference.read_status(1, frame)),
+        right => right,
+    }
+}
+
+const WRONG_STATUS: &[(&str, Wrong)] = &[
+    (
+        "halves to even by edition 1",
+        Wrong::ReadStatus(|e, f| {
+            accuracy_with(1, (e, f), |mm, rest| mm + u16::from(rest > 5) + if rest == 5 { mm % 2 } else { 0 })
+        }),
+    ),
+    (
+        "halves up by edition 2",
+        Wrong::ReadStatus(|e, f| accuracy_with(2, (e, f), |mm, rest| mm + u16::from(rest >= 5))),
+    ),
+    (
+        "halves down by edition 1",
+        Wrong::ReadStatus(|e, f| accuracy_with(1, (e, f), |mm, rest| mm + u16::from(rest > 5))),
+    ),
+    (
+        "halves down by edition 2",
+        Wrong::ReadStatus(|e, f| accuracy_with(2, (e, f), |mm, rest| mm + u16::from(rest > 5))),
+    ),
+    (
+        "halves to odd by edition 2",
+        Wrong::ReadStatus(|e, f| {
+            accuracy_with(2, (e, f), |mm, rest| mm + u16::from(rest > 5 || (rest == 5 && mm % 2 == 0)))
+        }),
+    ),
+    (
+        "4 tenths are a half too",
+        Wrong::ReadStatus(|e, f| {
+            accuracy_with(2, (e, f), |mm, rest| mm + u16::from(rest > 5 || (rest >= 4 && mm % 2 == 1)))
+        }),
+    ),
+    (
+        "6 tenths are a half too",
+        Wrong::ReadStatus(|e, f| {
+            accuracy_with(2, (e, f), |mm, rest| mm + u16::from(rest > 6 || (rest >= 5 && mm % 2 == 1)))
+        }),
+    ),
+    ("cut off by edition 2", Wrong::ReadStatus(|e, f| accuracy_with(2, (e, f), |mm, _| mm))),
+    (
+        "halves from 256 mm on go up",
+        Wrong::ReadStatus(|e, f| {
+            accuracy_with(2, (e, f), |mm, rest| mm + u16::from(rest > 5 || (rest == 5 && (mm > 255 || mm % 2 == 1))))
+        }),
+    ),
+    (
+        "the accuracy as sent is by the edition too",
+        Wrong::ReadStatus(|e, f| match Reference.read_status(e, f) {
+            right if e == 2 => StatusFrame { accuracy: 10 * right.accuracy_mm.min(6553), ..right },
+            right => right,
+        }),
+    ),
+    (
+        "32 goes before 5",
+        Wrong::ReadStatus(|e, f| match Reference.read_status(e, f) {
+            right if is_wrong(e) => StatusFrame { refusal: 32, ..right },
+            right => right,
+        }),
+    ),
+    (
+        "an edition is refused only at a half",
+        Wrong::ReadStatus(|e, f| match EDITIONS.map(|edition| Reference.read_status(edition, f)) {
+            [first, second] if is_wrong(e) && first == second => first,
+            _ => Reference.read_status(e, f),
+        }),
+    ),
+    (
+        "32 leaves the fields",
+        Wrong::ReadStatus(|e, f| status_if_32((e, f), |_, by_1| StatusFrame { refusal: 32, ..by_1 })),
+    ),
+    (
+        "32 leaves the accuracy as sent",
+        Wrong::ReadStatus(|e, f| status_if_32((e, f), |right, by_1| StatusFrame { accuracy: by_1.accuracy, ..right })),
+    ),
+    (
+        "32 leaves the time difference",
+        Wrong::ReadStatus(|e, f| {
+            status_if_32((e, f), |right, by_1| StatusFrame { time_difference: by_1.time_difference, ..right })
+        }),
+    ),
+    (
+        "by another edition only the millimetres are not there",
+        Wrong::ReadStatus(|e, f| status_if_32((e, f), |_, by_1| StatusFrame { accuracy_mm: 0, ..by_1 })),
+    ),
+    ("32 is told as 5", Wrong::ReadStatus(|e, f| status_if_32((e, f), |right, _| StatusFrame { refusal: 5, ..right }))),
 ];
 
 /// Writes the frame with other blocks in place of its own.
@@ -1107,18 +1391,29 @@ fn every_wrong_reader_is_found_at_the_edges() {
             assert!(found.to_string().contains("a fixed case"), "{what}: {found}");
         }
     }
-    for (what, wrong) in WRONG_PACKETS {
-        assert!(slices().iter().any(|slice| check_throughout(wrong, slice).is_err()), "{what}");
+    let slices = slices();
+    for (what, wrong) in WRONG_PACKETS.iter().chain(WRONG_POINTS).copied().chain(of_other_editions()) {
+        assert!(slices.iter().any(|slice| check_throughout(&wrong, slice).is_err()), "{what}");
     }
+}
+
+/// In every function that takes an edition.
+fn of_other_editions() -> impl Iterator<Item = (&'static str, Wrong)> {
+    OTHER_EDITIONS.iter().map(|&(what, other)| (what, Wrong::Edition(other)))
 }
 
 #[test]
 fn every_wrong_reader_is_found() {
+    let others: Vec<_> = of_other_editions().collect();
     let lists = [
         (PACKETS, WRONG_PACKETS),
+        (PACKETS, WRONG_POINTS),
+        (PACKETS, &others),
         (COMMANDS, WRONG_COMMANDS),
         (WRITTEN_COMMANDS, WRONG_WRITTEN_COMMANDS),
         (FRAMES, WRONG_FRAMES),
+        (FRAMES, WRONG_STATUS),
+        (FRAMES, &others),
         (WRITTEN_FRAMES, WRONG_WRITTEN_FRAMES),
     ];
     for (run, readers) in lists {

@@ -4,6 +4,8 @@
 
 use radar_reference::abi::fields::{DataFrame, ErrorFrame, FieldSubject, StatusFrame, Target, TargetFrame, Written};
 use radar_reference::abi::Reference;
+use radar_reference::generate::floats::wrong_editions;
+use radar_reference::numbers::EDITIONS;
 
 /// The bytes that stand in an output before it is written.
 const FILLER: u8 = 170;
@@ -36,12 +38,12 @@ fn assert_written(room: usize, expected: Result<&[u8], u32>, write: impl Fn(&dyn
     }
 }
 
-/// What the four readers refuse with, R, P and C first.
+/// What the four readers refuse with, R, P and C first; U by edition 1.
 fn refusals(subject: &dyn FieldSubject, frame: &[u8]) -> [u32; 4] {
     [
         subject.read_data(frame).refusal,
         subject.read_targets(frame).refusal,
-        subject.read_status(frame).refusal,
+        subject.read_status(1, frame).refusal,
         subject.read_error(frame).refusal,
     ]
 }
@@ -311,26 +313,48 @@ fn status_of(format: u8, gain: u8, accuracy: u16, accuracy_mm: u16, time_differe
     StatusFrame { refusal: 0, format, gain, accuracy, accuracy_mm, max_range, ramp_time, bandwidth, time_difference }
 }
 
-fn status_case(fields: StatusFrame, frame: &[u8]) {
+/// The frame that these fields are written as, and that they are read from by an edition.
+fn status_case(edition: u32, fields: StatusFrame, frame: &[u8]) {
     for room in [26, 29] {
         assert_written(room, Ok(frame), |subject, output| subject.write_status(output, fields));
     }
     assert_written(25, Err(51), |subject, output| subject.write_status(output, fields));
     for subject in subjects() {
-        assert_eq!(subject.read_status(frame), fields);
+        assert_eq!(subject.read_status(edition, frame), fields);
     }
     assert_one_frame(frame, 2);
 }
 
 #[test]
 fn status() {
-    status_case(status_of(0, 34, 5, 1, 0), b"!U0\"0005123456789ABC0000\r\n");
-    status_case(status_of(15, 254, 0x205, 52, 0xFFFF), b"!UF\xFE0205123456789ABCFFFF\r\n");
-    status_case(status_of(5, 90, 4, 0, 1), b"!U5Z0004123456789ABC0001\r\n");
-    status_case(status_of(5, 90, 0xFFFF, 6554, 0xDEAD), b"!U5ZFFFF123456789ABCDEAD\r\n");
+    status_case(1, status_of(0, 34, 5, 1, 0), b"!U0\"0005123456789ABC0000\r\n");
+    status_case(2, status_of(0, 34, 5, 0, 0), b"!U0\"0005123456789ABC0000\r\n");
+    for edition in EDITIONS {
+        status_case(edition, status_of(15, 254, 0x205, 52, 0xFFFF), b"!UF\xFE0205123456789ABCFFFF\r\n");
+        status_case(edition, status_of(5, 90, 4, 0, 1), b"!U5Z0004123456789ABC0001\r\n");
+        status_case(edition, status_of(5, 90, 6, 1, 1), b"!U5Z0006123456789ABC0001\r\n");
+        status_case(edition, status_of(5, 90, 15, 2, 1), b"!U5Z000F123456789ABC0001\r\n");
+        status_case(edition, status_of(5, 90, 0xFFFF, 6554, 0xDEAD), b"!U5ZFFFF123456789ABCDEAD\r\n");
+    }
+    status_case(1, status_of(5, 90, 25, 3, 1), b"!U5Z0019123456789ABC0001\r\n");
+    status_case(2, status_of(5, 90, 25, 2, 1), b"!U5Z0019123456789ABC0001\r\n");
     for fields in [status_of(16, 90, 5, 1, 1), status_of(5, 33, 5, 1, 1), status_of(5, 255, 5, 1, 1)] {
         for room in [26, 25] {
             assert_written(room, Err(50), |subject, output| subject.write_status(output, fields));
+        }
+    }
+}
+
+#[test]
+fn status_by_another_edition() {
+    let frame = b"!U5Z0019123456789ABC0001\r\n";
+    let refused = |refusal| StatusFrame { refusal, ..StatusFrame::default() };
+    for edition in wrong_editions() {
+        for subject in subjects() {
+            assert_eq!(subject.read_status(edition, frame), refused(32), "{edition}");
+            for none in [&frame[..25], &frame[1..], b"!E0000\r\n", b""] {
+                assert_eq!(subject.read_status(edition, none), refused(5), "{edition}, {none:?}");
+            }
         }
     }
 }
@@ -350,7 +374,9 @@ fn status_as_documented() {
         time_difference: all,
     };
     for subject in subjects() {
-        assert_eq!(subject.read_status(b"!U5Z02000200020002000200\r\n"), fields);
+        for edition in EDITIONS {
+            assert_eq!(subject.read_status(edition, b"!U5Z02000200020002000200\r\n"), fields);
+        }
     }
 }
 
@@ -402,7 +428,10 @@ fn damaged() {
             for subject in subjects() {
                 assert_eq!(subject.read_data(&bytes), Reference.read_data(&bytes), "{bytes:?}");
                 assert_eq!(subject.read_targets(&bytes), Reference.read_targets(&bytes), "{bytes:?}");
-                assert_eq!(subject.read_status(&bytes), Reference.read_status(&bytes), "{bytes:?}");
+                for edition in 0..4 {
+                    let expected = Reference.read_status(edition, &bytes);
+                    assert_eq!(subject.read_status(edition, &bytes), expected, "{edition}, {bytes:?}");
+                }
                 assert_eq!(subject.read_error(&bytes), Reference.read_error(&bytes), "{bytes:?}");
             }
             match refusals(&Reference, &bytes).contains(&0) {

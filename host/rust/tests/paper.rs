@@ -1,11 +1,11 @@
 //! The papers' own values: every line of paper 01's "Values at the edges", its listing and its traps; the sentences of
-//! paper 02 (i) and (ii), one by one.
+//! paper 02 (i), (ii) and (iv), one by one.
 
 use radar_reference::judgement::{judge, Judgement, DIALECTS, MMWAVE, SIRAD, VITAL_SIGNS};
-use radar_reference::numbers::{accuracy_millimetres, decibels, millimetres, phase_hundredths};
+use radar_reference::numbers::{accuracy_millimetres, decibels, millimetres, phase_hundredths, EDITIONS};
 use radar_reference::packet_rules::MAGIC;
 use radar_reference::reading::{closed_reading, open_reading, Reading};
-use radar_reference::sirad_fields::{self, read_targets, write_targets, Target, Targets};
+use radar_reference::sirad_fields::{read_status, read_targets, write_targets, Target, Targets};
 use radar_reference::{listing, packet};
 
 fn whole(kind: u32, length: usize) -> Result<Judgement, u32> {
@@ -31,25 +31,27 @@ fn padded(mut bytes: Vec<u8>, length: usize) -> Vec<u8> {
     bytes
 }
 
-// Values at the edges, line by line.
+// Values at the edges, line by line; halves by edition 1, the others by both.
 
 #[test]
 fn line_1_floats_at_a_half() {
-    assert_eq!(millimetres(0x3D80_0000), Ok(63));
-    assert_eq!(millimetres(0xBD80_0000), Ok(-63));
+    assert_eq!(millimetres(1, 0x3D80_0000), Ok(63));
+    assert_eq!(millimetres(1, 0xBD80_0000), Ok(-63));
 }
 
 #[test]
 fn line_2_floats_at_a_half_and_minus_zero() {
-    assert_eq!(millimetres(0x3E40_0000), Ok(188));
-    assert_eq!(millimetres(0x8000_0000), Ok(0));
+    assert_eq!(EDITIONS.map(|edition| millimetres(edition, 0x3E40_0000)), [Ok(188); 2]);
+    assert_eq!(EDITIONS.map(|edition| millimetres(edition, 0x8000_0000)), [Ok(0); 2]);
 }
 
 #[test]
 fn line_3_floats_at_the_limit() {
-    assert_eq!(millimetres(0x447A_0000), Ok(1_000_000));
-    assert_eq!(millimetres(0x447A_0001), Err(31));
-    assert_eq!(millimetres(0x7F80_0000), Err(30));
+    for edition in EDITIONS {
+        assert_eq!(millimetres(edition, 0x447A_0000), Ok(1_000_000));
+        assert_eq!(millimetres(edition, 0x447A_0001), Err(31));
+        assert_eq!(millimetres(edition, 0x7F80_0000), Err(30));
+    }
 }
 
 #[test]
@@ -65,12 +67,12 @@ fn line_5_char_36_as_phase() {
 
 #[test]
 fn line_6_accuracy() {
-    assert_eq!(accuracy_millimetres(0x0005), 1);
-    assert_eq!(accuracy_millimetres(0x0205), 52);
+    assert_eq!(accuracy_millimetres(1, 0x0005), Ok(1));
+    assert_eq!(EDITIONS.map(|edition| accuracy_millimetres(edition, 0x0205)), [Ok(52); 2]);
     let frame = b"!U0Z00050000000000000000\r\n";
-    assert_eq!(sirad_fields::read_status(frame).unwrap().accuracy_millimetres(), 1);
+    assert_eq!(read_status(1, frame).unwrap().accuracy_mm, 1);
     let frame = b"!U0Z02050000000000000000\r\n";
-    assert_eq!(sirad_fields::read_status(frame).unwrap().accuracy_millimetres(), 52);
+    assert_eq!(EDITIONS.map(|edition| read_status(edition, frame).unwrap().accuracy_mm), [52; 2]);
 }
 
 #[test]
@@ -297,7 +299,7 @@ fn points_stay_with_kind_16_and_the_rest_is_read_of_the_kind_named() {
     assert_eq!(packet::header(17, &bytes).map(|header| (header.object_count, header.record_count)), Ok((99, 1)));
     assert_eq!(packet::record(17, &bytes, 0).map(|record| record.record_type), Ok(1));
     assert_eq!(packet::step(17, &bytes, 40).map(|(_, behind)| behind), Ok(72));
-    assert_eq!(packet::point(&bytes, 0), Err(5));
+    assert_eq!(packet::point(1, &bytes, 0), Err(5));
     for kind in [0, 1, 2, 5, 6, 15, 16, 18, u32::MAX] {
         assert_eq!(packet::header(kind, &bytes), Err(5));
         assert_eq!(packet::record(kind, &bytes, 0), Err(5));
@@ -434,4 +436,83 @@ fn refusal_54_after_50_and_before_51() {
     targets.blocks[15].empty = 1;
     targets.blocks[3].phase = 1;
     assert_eq!((write(&targets, 230), write(&targets, 229)), (Ok(230), Err(51)));
+}
+
+// Paper 02 (iv), half a millimetre, edition two, sentence by sentence.
+
+/// A packet of one point, and of no record of type 1 if `record_type` is another.
+fn packet_of_a_point(record_type: u32, coordinates: [f32; 3]) -> Vec<u8> {
+    let [x, y, z] = coordinates.map(f32::to_bits);
+    let mut bytes = padded(packet_front(64, 1, &[record_type, 16, x, y, z, 7]), 64);
+    bytes[28] = 1;
+    bytes
+}
+
+/// The coordinates of its point.
+fn point_of(edition: u32, coordinates: [f32; 3]) -> Result<[i32; 3], u32> {
+    let point = packet::point(edition, &packet_of_a_point(1, coordinates), 0)?;
+    assert_eq!(point.doppler, 7);
+    Ok([point.x, point.y, point.z])
+}
+
+/// The accuracy in millimetres of a U frame.
+fn accuracy_of(edition: u32, tenths: u32) -> Result<u32, u32> {
+    let status = read_status(edition, format!("!U0Z{tenths:04X}0000000000000000\r\n").as_bytes())?;
+    assert_eq!(status.accuracy, tenths);
+    Ok(status.accuracy_mm)
+}
+
+#[test]
+fn from_edition_2_halves_go_to_the_even_neighbour() {
+    let answers = [0.0625f32, 0.1875, -0.0625, -0.1875].map(|metres| millimetres(2, metres.to_bits()));
+    assert_eq!(answers, [Ok(62), Ok(188), Ok(-62), Ok(-188)]);
+    assert_eq!([5, 15, 25, 35].map(|tenths| accuracy_millimetres(2, tenths)), [Ok(0), Ok(2), Ok(2), Ok(4)]);
+}
+
+#[test]
+fn edition_1_stays() {
+    let answers = [0.0625f32, 0.1875, -0.0625, -0.1875].map(|metres| millimetres(1, metres.to_bits()));
+    assert_eq!(answers, [Ok(63), Ok(188), Ok(-63), Ok(-188)]);
+    assert_eq!([5, 15, 25, 35].map(|tenths| accuracy_millimetres(1, tenths)), [Ok(1), Ok(2), Ok(3), Ok(4)]);
+}
+
+#[test]
+fn whoever_calls_them_passes_the_edition_on() {
+    assert_eq!(point_of(1, [0.0625, -0.0625, 0.3125]), Ok([63, -63, 313]));
+    assert_eq!(point_of(2, [0.0625, -0.0625, 0.3125]), Ok([62, -62, 312]));
+    assert_eq!(EDITIONS.map(|edition| accuracy_of(edition, 25)), [Ok(3), Ok(2)]);
+}
+
+#[test]
+fn they_differ_only_at_exact_halves() {
+    let mut halves = 0;
+    for bits in (0..1000f32.to_bits()).step_by(1 << 10) {
+        let exact = f64::from(f32::from_bits(bits)) * 1000.0;
+        let [first, second] = EDITIONS.map(|edition| millimetres(edition, bits).unwrap());
+        // Of a whole number and a half, the one beyond is odd if the one before is even.
+        let differ = exact.fract() == 0.5 && exact.trunc() % 2.0 == 0.0;
+        assert_eq!(first - second, i32::from(differ), "{bits:08X}");
+        halves += i32::from(differ);
+    }
+    assert_eq!(halves, 4000);
+}
+
+#[test]
+fn refusal_32_before_30_and_31_and_after_5_7_6() {
+    let (far, infinite) = (1000.5, f32::INFINITY);
+    for edition in [0, 3, 4, 255, 257, 1 << 31, u32::MAX] {
+        for metres in [0.0625, far, infinite] {
+            assert_eq!(millimetres(edition, f32::to_bits(metres)), Err(32));
+            assert_eq!(point_of(edition, [metres, 0.0, 0.0]), Err(32));
+        }
+        assert_eq!(accuracy_millimetres(edition, 5), Err(32));
+        assert_eq!(accuracy_of(edition, 5), Err(32));
+        let packet = packet_of_a_point(1, [infinite; 3]);
+        assert_eq!(packet::point(edition, &packet, 1), Err(6));
+        assert_eq!(packet::point(edition, &packet_of_a_point(10, [infinite; 3]), 1), Err(7));
+        assert_eq!(packet::point(edition, &packet[..63], 0), Err(5));
+        assert_eq!(read_status(edition, b"!U0Z00050000000000000000\r"), Err(5));
+    }
+    assert_eq!(EDITIONS.map(|edition| point_of(edition, [0.0, far, infinite])), [Err(31); 2]);
+    assert_eq!(EDITIONS.map(|edition| point_of(edition, [infinite, far, 0.0])), [Err(30); 2]);
 }

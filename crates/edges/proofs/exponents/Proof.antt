@@ -5,10 +5,10 @@ use Rattle.edges.proofs.exponents.Statement.{statement}
 use Rattle.edges.proofs.exponents.Tie as tie
 
 abbrev Inv-loop : tie.InvT-loop
-Inv-loop e₀ e = e ≤ 256
+Inv-loop edition e₀ e = e ≤ 256
 
 abbrev μ-loop : tie.MeasureT-loop
-μ-loop e₀ e = 256 - e
+μ-loop edition e₀ e = 256 - e
 
 slice-aggregate-write-all : tie.Need-slice-aggregate-write-all Inv-loop μ-loop
 slice-aggregate-write-all c = search needs

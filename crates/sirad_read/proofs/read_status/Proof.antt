@@ -19,7 +19,7 @@ returns : tie.Need-returns
 returns c =
     let judged = c .before .before in
     let kind = halted-kind _ (judged .judge .ensures .answers) (c .before .match .keys2) in
-    status-refused (judged .before .before .args .frame .now) kind (c .no-status .ensures) (λ e. omega arith)
+    status-refused (judged .before .before .args .frame .now) kind _ (c .no-status .ensures) (λ e. omega arith)
 
 no-status-requires-2 : tie.Need-no-status-requires-2
 no-status-requires-2 c κs = search needs
@@ -29,7 +29,7 @@ returns-2 c =
     let whole = c .before .before .before in
     let judged = whole .before .before in
     let kind = other-size _ (judged .judge .ensures .answers) (whole .kind .given .1) (c .before .if1 .taken) in
-    status-refused (judged .before .before .args .frame .now) kind (c .no-status2 .ensures) (λ e. omega arith)
+    status-refused (judged .before .before .args .frame .now) kind _ (c .no-status2 .ensures) (λ e. omega arith)
 
 no-status-requires-3 : tie.Need-no-status-requires-3
 no-status-requires-3 c κs = search needs
@@ -39,7 +39,7 @@ returns-3 c =
     let whole = c .before .before .before .before in
     let judged = whole .before .before in
     let kind = same-size _ (judged .judge .ensures .answers) (whole .kind .given .1) (c .before .before .if1 .left) in
-    status-refused (judged .before .before .args .frame .now) kind (c .no-status3 .ensures) (c .before .if2 .taken)
+    status-refused (judged .before .before .args .frame .now) kind _ (c .no-status3 .ensures) (c .before .if2 .taken)
 
 status-frame-requires : tie.Need-status-frame-requires
 status-frame-requires c κs =
@@ -55,7 +55,7 @@ returns-4 c =
     let judged = whole .before .before in
     let kind = same-size _ (judged .judge .ensures .answers) (whole .kind .given .1) (c .before .before .if1 .left)
     ∙ c .before .if2 .left in
-    status-read (judged .before .before .args .frame .now) kind (c .status-frame .ensures)
+    status-read _ (judged .before .before .args .frame .now) kind (c .status-frame .ensures)
 
 pub read-status-spec : {M : Type 1} → statement M
 read-status-spec =

@@ -2,6 +2,7 @@
 use native.Mathlib.Omega.{arith}
 use mathlib.Core.Path.{sym, _∙_}
 use borrow.Author.Needs.{needs}
+use Rattle.units.specs.Units.{tiesOf}
 use Rattle.units.proofs.Machine.{centidegrees-value, centidegrees-refused, centidegrees-small}
 use Rattle.units.proofs.centidegrees_of.Statement.{statement}
 use Rattle.units.proofs.centidegrees_of.Tie as tie
@@ -19,11 +20,13 @@ rounded-requires : tie.Need-rounded-requires
 rounded-requires c κs = search needs
 
 signed-quantity-requires : tie.Need-signed-quantity-requires
+unfolding tiesOf
 signed-quantity-requires c κs =
     let character = c .before .before .before .before .args .character in
     centidegrees-small character _ _ (omega arith) (c .before .apart .ensures) (c .rounded .ensures)
 
 returns : tie.Need-returns
+unfolding tiesOf
 returns c =
     let w = c .before .before in
     let is = sym (w .before .before .is-character .ensures) ∙ w .before .if1 .taken in

@@ -1,32 +1,27 @@
--- `units::refusal_number` meets its contract: what is infinite is too far as well, so nothing goes below 0.
-use lib.Dec.{lit<, lit≤}
+-- `units::refusal_number` meets its contract: its tests are those of the definition.
 use borrow.Author.Needs.{needs}
-use Rattle.units.proofs.Machine.{less-fits, most-fits, infinite-far, number-is}
+use borrow.Author.Tests.{le-leb, lt-leb}
 use Rattle.units.proofs.refusal_number.Statement.{statement}
 use Rattle.units.proofs.refusal_number.Tie as tie
 
-cast-far : tie.Need-cast-far
-cast-far c = search needs
-
-cast-infinite : tie.Need-cast-infinite
-cast-infinite c = search needs
-
-mul-result : tie.Need-mul-result
-mul-result c = record { fits = less-fits _ _ (c .args .unsigned) (lit< tt) }
-
-sub-result : tie.Need-sub-result
-sub-result c = search needs
-
-mul-result-2 : tie.Need-mul-result-2
-mul-result-2 c = record { fits = most-fits _ _ (c .args .unsigned) (lit< tt) }
-
-sub-result-2 : tie.Need-sub-result-2
-sub-result-2 c = infinite-far _ _ _ _ (c .args .unsigned) (lit≤ tt) (lit< tt)
+sub-if1 : tie.Need-sub-if1
+sub-if1 c = search needs
 
 returns : tie.Need-returns
-returns c = number-is (c .args .unsigned)
+returns c = simp (le-leb _ (c .before .args .over) (c .if1 .taken))
+
+sub-if2 : tie.Need-sub-if2
+sub-if2 c = search needs
+
+returns-2 : tie.Need-returns-2
+returns-2 c =
+    let over = c .before .before .args .over in
+    simp (lt-leb _ over (c .before .if1 .left), le-leb _ over (c .if2 .taken))
+
+returns-3 : tie.Need-returns-3
+returns-3 c =
+    let over = c .before .before .args .over in
+    simp (lt-leb _ over (c .before .if1 .left), lt-leb _ over (c .if2 .left))
 
 pub refusal-number-spec : {M : Type 1} → statement M
-refusal-number-spec =
-    tie.close
-    (tie.spec cast-far cast-infinite mul-result sub-result mul-result-2 sub-result-2 returns)
+refusal-number-spec = tie.close (tie.spec sub-if1 returns sub-if2 returns-2 returns-3)

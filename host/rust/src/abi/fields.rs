@@ -147,12 +147,12 @@ pub trait FieldSubject {
     fn header(&self, kind: u32, packet: &[u8]) -> Header;
     fn record(&self, kind: u32, packet: &[u8], index: usize) -> Record;
     fn step(&self, kind: u32, packet: &[u8], place: usize) -> Step;
-    fn point(&self, packet: &[u8], index: usize) -> Point;
+    fn point(&self, edition: u32, packet: &[u8], index: usize) -> Point;
     fn read_command(&self, bytes: &[u8]) -> Command;
     fn write_command(&self, output: &mut [u8], command: Command) -> Written;
     fn read_data(&self, frame: &[u8]) -> DataFrame;
     fn read_targets(&self, frame: &[u8]) -> TargetFrame;
-    fn read_status(&self, frame: &[u8]) -> StatusFrame;
+    fn read_status(&self, edition: u32, frame: &[u8]) -> StatusFrame;
     fn read_error(&self, frame: &[u8]) -> ErrorFrame;
     fn write_data(&self, output: &mut [u8], kind: u32, content: &[u8]) -> Written;
     fn write_targets(&self, output: &mut [u8], frame: TargetFrame) -> Written;
@@ -223,8 +223,8 @@ impl FieldSubject for Reference {
         }
     }
 
-    fn point(&self, packet: &[u8], index: usize) -> Point {
-        let answer = packet::point(packet, index_of(index)).map(|point| Point {
+    fn point(&self, edition: u32, packet: &[u8], index: usize) -> Point {
+        let answer = packet::point(edition, packet, index_of(index)).map(|point| Point {
             refusal: 0,
             x: point.x,
             y: point.y,
@@ -282,13 +282,13 @@ impl FieldSubject for Reference {
         either(answer, |refusal| TargetFrame { refusal, ..TargetFrame::default() })
     }
 
-    fn read_status(&self, frame: &[u8]) -> StatusFrame {
-        let answer = sirad_fields::read_status(frame).map(|status| StatusFrame {
+    fn read_status(&self, edition: u32, frame: &[u8]) -> StatusFrame {
+        let answer = sirad_fields::read_status(edition, frame).map(|status| StatusFrame {
             refusal: 0,
             format: narrow(status.format),
             gain: narrow(status.gain),
             accuracy: narrow(status.accuracy),
-            accuracy_mm: narrow(status.accuracy_millimetres()),
+            accuracy_mm: narrow(status.accuracy_mm),
             max_range: narrow(status.max_range),
             ramp_time: narrow(status.ramp_time),
             bandwidth: narrow(status.bandwidth),
@@ -323,6 +323,7 @@ impl FieldSubject for Reference {
             format: status.format.into(),
             gain: status.gain.into(),
             accuracy: status.accuracy.into(),
+            accuracy_mm: status.accuracy_mm.into(),
             max_range: status.max_range.into(),
             ramp_time: status.ramp_time.into(),
             bandwidth: status.bandwidth.into(),

@@ -9,7 +9,7 @@ use super::{Difference, Tally};
 use crate::abi::fields::{Command, FieldSubject, Header, StatusFrame, Target, TargetFrame, Written};
 use crate::abi::{Reference, Subject};
 use crate::generate::demorad::{self, Values};
-use crate::generate::floats::float_bits;
+use crate::generate::floats::{float_bits, float_half, wrong_edition, wrong_editions};
 use crate::generate::random::Random;
 use crate::generate::{lent, mmwave, sirad, vital_signs};
 use crate::judgement::{MMWAVE, SIRAD, VITAL_SIGNS};
@@ -60,16 +60,42 @@ impl<'a> Run<'a> {
         Ok(answer)
     }
 
+    /// Compares what a function answers by both editions and by another, and counts where the editions differ.
+    fn check_editions<T: PartialEq + Debug>(
+        &mut self,
+        function: &str,
+        bytes: &[u8],
+        other: u32,
+        ask: impl Fn(&dyn FieldSubject, u32) -> T,
+        refusal: fn(&T) -> Refusal,
+    ) -> Result<(), Difference> {
+        let mut by = |edition| {
+            let answer = self.check(function, bytes, |subject| ask(subject, edition), refusal);
+            answer.map_err(|difference| difference.by_edition(edition))
+        };
+        let (first, second) = (by(1)?, by(2)?);
+        by(other)?;
+        if first != second {
+            self.tally.count(format!("{function}, the editions differ"));
+        }
+        Ok(())
+    }
+
     /// All four readers of SiRad fields; what is read of a T frame is written again.
-    fn check_frame(&mut self, frame: &[u8]) -> Result<(), Difference> {
+    fn check_frame(&mut self, frame: &[u8], other: u32) -> Result<(), Difference> {
         let data = self.check("read_data", frame, |subject| subject.read_data(frame), |answer| answer.refusal)?;
         if data.refusal == 0 {
             self.tally.count(format!("read_data, kind {}", data.kind));
         }
         self.check_targets(frame)?;
-        self.check("read_status", frame, |subject| subject.read_status(frame), |answer| answer.refusal)?;
+        self.check_status(frame, other)?;
         self.check("read_error", frame, |subject| subject.read_error(frame), |answer| answer.refusal)?;
         Ok(())
+    }
+
+    fn check_status(&mut self, frame: &[u8], other: u32) -> Result<(), Difference> {
+        let ask = |subject: &dyn FieldSubject, edition| subject.read_status(edition, frame);
+        self.check_editions("read_status", frame, other, ask, |answer| answer.refusal)
     }
 
     fn check_targets(&mut self, frame: &[u8]) -> Result<(), Difference> {
@@ -87,7 +113,7 @@ impl<'a> Run<'a> {
     }
 
     /// The header, the records by index and by place, of each kind that packets are read of and of some other; the points.
-    fn check_packet(&mut self, random: &mut Random, packet: &[u8]) -> Result<(), Difference> {
+    fn check_packet(&mut self, random: &mut Random, packet: &[u8], edition: u32) -> Result<(), Difference> {
         for kind in PACKET_KINDS {
             let header = self.check_header(kind, packet)?;
             for index in (0..=header.records as usize + 1).chain([u32::MAX as usize, 1 << 32, usize::MAX]) {
@@ -102,10 +128,12 @@ impl<'a> Run<'a> {
         self.check_record(other, packet, random.below(3))?;
         self.check_step(other, packet, 40)?;
         let objects = Reference.header(PACKET_KINDS[0], packet).objects;
-        for index in point_indexes(objects as usize) {
-            self.check("point", packet, |subject| subject.point(packet, index), |answer| answer.refusal)?;
-        }
-        Ok(())
+        point_indexes(objects as usize).into_iter().try_for_each(|index| self.check_point(packet, index, edition))
+    }
+
+    fn check_point(&mut self, packet: &[u8], index: usize, other: u32) -> Result<(), Difference> {
+        let ask = |subject: &dyn FieldSubject, edition| subject.point(edition, packet, index);
+        self.check_editions("point", packet, other, ask, |answer| answer.refusal)
     }
 
     fn check_header(&mut self, kind: u32, packet: &[u8]) -> Result<Header, Difference> {
@@ -158,9 +186,9 @@ impl<'a> Run<'a> {
     }
 }
 
-/// Every field reader on every frame of a capture, on the capture itself and on it without its last byte; the capture as a
-/// command: what a fuzzer calls.
-pub fn check_fields(subject: &dyn FieldSubject, dialect: u32, capture: &[u8]) -> Result<(), Difference> {
+/// Every field reader on every frame of a capture, on the capture itself and on it without its last byte, by both editions
+/// and by the one named; the capture as a command: what a fuzzer calls.
+pub fn check_fields(subject: &dyn FieldSubject, dialect: u32, edition: u32, capture: &[u8]) -> Result<(), Difference> {
     let mut run = Run::new("check_fields", subject);
     let mut table = vec![0; ROW * (capture.len() / 8 + 1)];
     let reading = Reference.closed_reading(dialect, capture, &mut table);
@@ -168,13 +196,14 @@ pub fn check_fields(subject: &dyn FieldSubject, dialect: u32, capture: &[u8]) ->
     let frames = frames.map(|row| &capture[row[0] as usize..][..row[1] as usize]);
     let cut = &capture[..capture.len().saturating_sub(1)];
     for frame in frames.chain([capture, cut]) {
-        run.check_frame(frame)?;
-        run.check_packet(&mut Random::new(1), frame)?;
+        run.check_frame(frame, edition)?;
+        run.check_packet(&mut Random::new(1), frame, edition)?;
     }
     run.check("read_command", capture, |subject| subject.read_command(capture), |answer| answer.refusal).map(drop)
 }
 
-/// So many SiRad slices, each with all four readers of fields.
+/// So many SiRad slices, each with all four readers of fields; then a U frame with every accuracy, and by editions that are
+/// none.
 pub fn compare_frames(subject: &dyn FieldSubject, first_seed: u64, frames: u64) -> Result<Tally, Difference> {
     let mut run = Run::new("compare_frames", subject);
     for seed in first_seed..first_seed + frames {
@@ -184,18 +213,31 @@ pub fn compare_frames(subject: &dyn FieldSubject, first_seed: u64, frames: u64) 
         let room = if random.once_in(16) { 66_000 } else { 400 };
         let frame = sirad::frame_of(&mut random, identifier, room);
         let frame = &lent(&mut random, SIRAD, frame)[..];
-        run.check_frame(frame)?;
+        run.check_frame(frame, wrong_edition(&mut random))?;
     }
     run.seed = None;
-    run.check_frame(b"")?;
-    run.check_frame(&too_long(b"!E0000\r\n"))?;
+    for slice in [Vec::new(), too_long(b"!E0000\r\n"), too_long(&status_with(5))] {
+        run.check_frame(&slice, 0)?;
+    }
+    (0..=u16::MAX).try_for_each(|accuracy| run.check_status(&status_with(accuracy), 3))?;
+    for edition in wrong_editions() {
+        let frame = status_with(25);
+        run.check_status(&frame, edition)?;
+        run.check_status(&frame[1..], edition)?;
+    }
     Ok(run.tally)
 }
 
-/// A packet from every place, its records and points at every index, and each a little beyond.
+/// A U frame of this accuracy.
+fn status_with(accuracy: u16) -> Vec<u8> {
+    format!("!U5Z{accuracy:04X}FFFF00000A0B0001\r\n").into_bytes()
+}
+
+/// A packet from every place, its records and points at every index, and each a little beyond; two points by every edition
+/// that is none.
 pub fn check_throughout(subject: &dyn FieldSubject, packet: &[u8]) -> Result<Tally, Difference> {
     let mut run = Run::new("check_throughout", subject);
-    run.check_packet(&mut Random::new(1), packet)?;
+    run.check_packet(&mut Random::new(1), packet, 0)?;
     for kind in OTHER_KINDS {
         run.check_header(kind, packet)?;
         run.check_record(kind, packet, 0)?;
@@ -206,7 +248,11 @@ pub fn check_throughout(subject: &dyn FieldSubject, packet: &[u8]) -> Result<Tal
     }
     let objects = Reference.header(PACKET_KINDS[0], packet).objects as usize;
     for index in 0..objects.min(packet.len() / 16) + 2 {
-        run.check("point", packet, |subject| subject.point(packet, index), |answer| answer.refusal)?;
+        run.check_point(packet, index, 3)?;
+    }
+    for edition in wrong_editions() {
+        run.check_point(packet, 0, edition)?;
+        run.check_point(packet, objects, edition)?;
     }
     Ok(run.tally)
 }
@@ -220,13 +266,14 @@ pub fn compare_packets(subject: &dyn FieldSubject, first_seed: u64, packets: u64
         let dialect = if seed % 2 == 0 { MMWAVE } else { VITAL_SIGNS };
         let packet = packet(&mut random, dialect);
         let packet = lent(&mut random, dialect, packet);
-        run.check_packet(&mut random, &packet)?;
+        let edition = wrong_edition(&mut random);
+        run.check_packet(&mut random, &packet, edition)?;
     }
     run.seed = None;
     let points = mmwave::packet_of_points(&mut Random::new(1), &[[1.0; 4]]);
     let vitals = vital_signs::monitor_packet(&mut Random::new(1), 0);
     for slice in [Vec::new(), too_long(&points), too_long(&vitals), points, vitals] {
-        run.check_packet(&mut Random::new(1), &slice)?;
+        run.check_packet(&mut Random::new(1), &slice, 0)?;
     }
     Ok(run.tally)
 }
@@ -258,6 +305,7 @@ fn coordinate(random: &mut Random) -> f32 {
         0 => f32::from_bits(random.word() | 0x7F80_0000),
         1 => f32::from_bits(float_bits(random)),
         2 => random.pick(&[1000.0, -1000.0, 1000.0001, -1000.0001, f32::MAX, -0.0, 0.0625]),
+        3 => float_half(random),
         _ => random.below(24_000) as f32 / 2000.0 - 6.0,
     }
 }

@@ -1,4 +1,4 @@
-//! The bits of floats, for the millimetre rule.
+//! The bits of floats and the numbers of editions, for the millimetre rule.
 
 use super::random::Random;
 
@@ -16,6 +16,11 @@ pub fn float_bits(random: &mut Random) -> u32 {
     };
     // That float or one close by.
     sign | (value.to_bits() + 2 - random.below(5) as u32)
+}
+
+/// A float whose thousandfold is a whole number and a half: an odd number of sixteenths, within 1000 metres.
+pub fn float_half(random: &mut Random) -> f32 {
+    (2 * random.below(16_000) + 1) as f32 / 16.0 - 1000.0
 }
 
 const EDGE_FRACTIONS: [u32; 10] =
@@ -36,4 +41,42 @@ pub fn float_edges() -> Vec<u32> {
     let limit = 1000f32.to_bits();
     magnitudes.extend(limit - 64..=limit + 64);
     magnitudes.iter().flat_map(|&bits| [bits, bits | 1 << 31]).collect()
+}
+
+/// Editions that are none: those beside 1 and 2, and numbers of every width whose low bits are those of 1 or 2.
+pub fn wrong_editions() -> Vec<u32> {
+    let wide = (2..32).flat_map(|bit| [1 << bit, 1 << bit | 1, 1 << bit | 2]);
+    [0, 3, 255, 0xFFFF, u32::MAX - 1, u32::MAX].into_iter().chain(wide).collect()
+}
+
+/// An edition that is none.
+pub fn wrong_edition(random: &mut Random) -> u32 {
+    match random.below(6) {
+        0 => 0,
+        1 => 3,
+        2 => random.word() | 4,
+        _ => random.pick(&wrong_editions()),
+    }
+}
+
+#[cfg(test)]
+mod tests {
+    use super::*;
+    use crate::numbers::EDITIONS;
+
+    #[test]
+    fn halves_are_exact_and_of_both_signs() {
+        let mut random = Random::new(1);
+        let halves: Vec<f32> = (0..2000).map(|_| float_half(&mut random)).collect();
+        assert!(halves.iter().all(|half| half.abs() < 1000.0 && (f64::from(*half) * 1000.0).fract().abs() == 0.5));
+        assert!(halves.iter().any(|half| *half < -900.0) && halves.iter().any(|half| *half > 900.0));
+    }
+
+    #[test]
+    fn wrong_editions_are_wrong() {
+        let mut random = Random::new(1);
+        let some = (0..2000).map(|_| wrong_edition(&mut random));
+        assert!(some.chain(wrong_editions()).all(|edition| !EDITIONS.contains(&edition)));
+        assert!([0, 3, 4, 255, 257, 1 << 31, u32::MAX].iter().all(|edition| wrong_editions().contains(edition)));
+    }
 }

@@ -346,11 +346,11 @@ mod tests {
     fn points_are_where_they_were_put() {
         let mut random = Random::new(1);
         let bytes = mmwave::packet_of_points(&mut random, &[[0.0625, -0.0625, 2.5, 0.25], [1000.0, 0.1, -0.0, 0.0]]);
-        let first = crate::packet::point(&bytes, 0).unwrap();
+        let first = crate::packet::point(1, &bytes, 0).unwrap();
         assert_eq!((first.x, first.y, first.z, first.doppler), (63, -63, 2500, 0.25f32.to_bits()));
-        let second = crate::packet::point(&bytes, 1).unwrap();
+        let second = crate::packet::point(1, &bytes, 1).unwrap();
         assert_eq!((second.x, second.y, second.z), (1_000_000, 100, 0));
-        assert_eq!(crate::packet::point(&mmwave::packet_of_points(&mut random, &[]), 0), Err(7));
+        assert_eq!(crate::packet::point(1, &mmwave::packet_of_points(&mut random, &[]), 0), Err(7));
     }
 
     #[test]
