@@ -373,6 +373,15 @@ pub fn compare_millimetres(subject: &dyn Subject, first_seed: u64, at_least: u64
     Ok(run.done)
 }
 
+/// All 2^32 floats in steps of so many, by both editions. Answers the number of conversions.
+pub fn compare_every_float(subject: &dyn Subject, step: usize) -> Result<u64, Difference> {
+    let mut run = Conversions { subject, done: 0 };
+    for bits in (0..=u32::MAX).step_by(step) {
+        run.compare(&EDITIONS, bits, &|| "all floats".to_owned())?;
+    }
+    Ok(run.done)
+}
+
 /// Every split A, B of so many short captures: the subject against the reader on A, and demand 3 on the subject's own
 /// answers on A and on A followed by B. Answers the number of splits.
 pub fn compare_splits(subject: &dyn Subject, first_seed: u64, captures: u64) -> Result<u64, Difference> {

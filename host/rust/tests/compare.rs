@@ -8,7 +8,8 @@ mod editions;
 use editions::{is_wrong, Renaming, OTHER_EDITIONS};
 use radar_reference::abi::{Judgement, Millimetres, Reading, Reference, Subject, BAD, WAITING, WHOLE};
 use radar_reference::compare::{
-    check_capture, compare_judgements, compare_millimetres, compare_readings, compare_splits, Difference, Tally,
+    check_capture, compare_every_float, compare_judgements, compare_millimetres, compare_readings, compare_splits,
+    Difference, Tally,
 };
 use radar_reference::judgement;
 use radar_reference::numbers::EDITIONS;
@@ -20,6 +21,8 @@ const JUDGEMENTS: u64 = 1_000_000;
 const READINGS: u64 = 12_000;
 const CONVERSIONS: u64 = 1_000_000;
 const SPLIT_CAPTURES: u64 = 3000;
+/// Of all floats, one in so many.
+const STEP: usize = 1021;
 
 fn first_seed() -> u64 {
     std::env::var("VQ_SEED").map_or(1, |seed| seed.parse().expect("VQ_SEED is a number"))
@@ -78,6 +81,24 @@ mod library {
     fn millimetres_agree() {
         let conversions = agreed(compare_millimetres(&Gateway, first_seed(), CONVERSIONS));
         println!("conversions: {conversions}");
+    }
+
+    #[test]
+    fn some_of_all_floats_agree() {
+        assert_every_float_agrees(STEP);
+    }
+
+    /// Run it with `cargo test --release --test compare -- --ignored`.
+    #[test]
+    #[ignore = "takes a minute or two"]
+    fn every_float_agrees() {
+        assert_every_float_agrees(1);
+    }
+
+    fn assert_every_float_agrees(step: usize) {
+        let conversions = agreed(compare_every_float(&Gateway, step));
+        println!("conversions: {conversions}");
+        assert_eq!(conversions, 2 * (1u64 << 32).div_ceil(step as u64));
     }
 
     #[test]
@@ -1002,6 +1023,14 @@ fn wrong_millimetres_are_found() {
     let conversions = agreed(compare_millimetres(&Reference, first_seed(), CONVERSIONS));
     println!("conversions: {conversions}");
     assert!(conversions >= CONVERSIONS);
+}
+
+#[test]
+fn wrong_millimetres_are_found_among_all_floats() {
+    for edition in EDITIONS {
+        let found = compare_every_float(&Wrong::Rounds(edition, f64::trunc), STEP);
+        assert!(found.is_err(), "not found: truncated by edition {edition}");
+    }
 }
 
 fn right_reading(closed: bool, dialect: u32, bytes: &[u8], table: &mut [u32]) -> Reading {
