@@ -45,6 +45,18 @@ for listing in captures/*.txt; do
   done
 done
 
+# The first point lies at half a millimetre: away from zero by edition 1, also where none is named, to even by edition 2.
+for case in "0 63 -63" "1 63 -63" "2 62 -62"; do
+  read -r edition x y <<<"$case"
+  "$built/gateway_demo" mmwave captures/mmwave-points.bin ${edition#0} >"$built/read" || exit 1
+  printf 'point 0\t%d\t%d\t1500\tmm\n' "$x" "$y" >"$built/rows"
+  grep -m 1 '^point' "$built/read" | cmp - "$built/rows" || { echo "host: gateway_demo by edition $edition"; exit 1; }
+done
+if "$built/gateway_demo" mmwave captures/mmwave-points.bin 3 >"$built/read" 2>&1 || ! grep -q '^usage' "$built/read"; then
+  echo "host: gateway_demo takes edition 3"
+  exit 1
+fi
+
 # More frames at once than the first table has rows, and a line longer than a stream.
 awk 'BEGIN { for (i = 0; i < 130000; i++) printf "!E0000\r\n " }' >"$built/long"
 awk 'BEGIN { print "kind\tplace\tlength"; for (i = 0; i < 130000; i++) printf "E\t%d\t8\n", 9 * i

@@ -2,13 +2,16 @@
  * What the fare gateway's host does with a capture: reads a file, walks it with the closed reading, prints a row for each
  * frame, turns the points of mmWave packets into millimetres, and names the records of vital-signs packets.
  *
- *   gateway_demo sirad|mmwave|vital-signs FILE
+ *   gateway_demo sirad|mmwave|vital-signs FILE [1|2]
+ *
+ * The last word is the edition of the millimetre rule; without it halves go away from zero, as in edition 1.
  *
  * Exit status 0 if the file was read, 1 if it was refused, 2 if there was nothing to read.
  */
 #include <stdint.h>
 #include <stdio.h>
 #include <stdlib.h>
+#include <string.h>
 
 #include "../include/vellanquor.h"
 #include "names.h"
@@ -34,9 +37,9 @@ static uint32_t number_at(const uint8_t *bytes, size_t place)
            (uint32_t)bytes[place + 3] << 24;
 }
 
-static void print_coordinate(uint32_t bits)
+static void print_coordinate(uint32_t edition, uint32_t bits)
 {
-    const struct vq_millimetres answer = vq_millimetres(VQ_EDITION_1, bits);
+    const struct vq_millimetres answer = vq_millimetres(edition, bits);
 
     if (answer.refusal != 0) {
         printf("\trefused %lu", (unsigned long)answer.refusal);
@@ -46,7 +49,7 @@ static void print_coordinate(uint32_t bits)
 }
 
 /* The first points of a whole packet. The judgement has shown that its records lie within it. */
-static void print_points(const uint8_t *packet, size_t length)
+static void print_points(uint32_t edition, const uint8_t *packet, size_t length)
 {
     const uint32_t objects = number_at(packet, OBJECT_COUNT);
     const uint32_t records = number_at(packet, RECORD_COUNT);
@@ -63,9 +66,9 @@ static void print_points(const uint8_t *packet, size_t length)
                 const size_t start = place + (size_t)point * POINT_SIZE;
 
                 printf("point %lu", (unsigned long)point);
-                print_coordinate(number_at(packet, start));
-                print_coordinate(number_at(packet, start + 4));
-                print_coordinate(number_at(packet, start + 8));
+                print_coordinate(edition, number_at(packet, start));
+                print_coordinate(edition, number_at(packet, start + 4));
+                print_coordinate(edition, number_at(packet, start + 8));
                 printf("\tmm\n");
             }
             return;
@@ -113,7 +116,7 @@ static uint8_t *read_file(const char *name, size_t *count)
 }
 
 /* The closed reading with a table that may be too short: a full one is printed and the reading goes on behind it. */
-static int walk(uint32_t dialect, const uint8_t *bytes, size_t count)
+static int walk(uint32_t dialect, uint32_t edition, const uint8_t *bytes, size_t count)
 {
     uint32_t table[ROWS * VQ_ROW];
     uint64_t skipped = 0;
@@ -135,7 +138,7 @@ static int walk(uint32_t dialect, const uint8_t *bytes, size_t count)
 
             printf("%c\t%lu\t%lu\n", letter_of(numbers[2]), (unsigned long)place, (unsigned long)numbers[1]);
             if (numbers[2] == VQ_KIND_PACKET) {
-                print_points(bytes + place, numbers[1]);
+                print_points(edition, bytes + place, numbers[1]);
             } else if (numbers[2] == VQ_KIND_VITAL_SIGNS) {
                 print_records(bytes + place, numbers[1]);
             }
@@ -168,15 +171,22 @@ static void print_next(uint32_t dialect, const uint8_t *bytes, size_t count)
     }
 }
 
+/* The edition of a word, or one that there is not. */
+static uint32_t edition_of(const char *word)
+{
+    return strcmp(word, "1") == 0 ? VQ_EDITION_1 : strcmp(word, "2") == 0 ? VQ_EDITION_2 : 0;
+}
+
 int main(int argc, char **argv)
 {
-    uint32_t dialect;
+    uint32_t dialect, edition;
     uint8_t *bytes;
     size_t count = 0;
     int status;
 
-    if (argc != 3 || dialect_of(argv[1]) > VQ_VITAL_SIGNS) {
-        fprintf(stderr, "usage: gateway_demo sirad|mmwave|vital-signs FILE\n");
+    edition = argc == 4 ? edition_of(argv[3]) : VQ_EDITION_1;
+    if (argc < 3 || argc > 4 || dialect_of(argv[1]) > VQ_VITAL_SIGNS || edition == 0) {
+        fprintf(stderr, "usage: gateway_demo sirad|mmwave|vital-signs FILE [1|2]\n");
         return 2;
     }
     dialect = dialect_of(argv[1]);
@@ -185,7 +195,7 @@ int main(int argc, char **argv)
         fprintf(stderr, "gateway_demo: can't read %s\n", argv[2]);
         return 2;
     }
-    status = walk(dialect, bytes, count);
+    status = walk(dialect, edition, bytes, count);
     if (status == 0) {
         print_next(dialect, bytes, count);
     }
