@@ -1,10 +1,11 @@
 //! What libFuzzer calls: the gateway library against the independent reader on one capture.
 //!
 //! Byte 0 of an input chooses the dialect, byte 1 the place of a split, bytes 2 to 7 where the feeder's calls are cut, bytes 8
-//! and 9 the sizes of its carry and table; the capture is the rest. Compared are the judgement at every place, both readings
-//! with tables of eight sizes, demand 3 at the split, each four bytes as the bits of a coordinate, the field readers on
-//! every frame and on the capture, and the feeder on the capture as a line and with made-up streams. A difference is printed
-//! and ends the run, and libFuzzer keeps the input.
+//! and 9 the sizes of its carry and table, bytes 10 to 13 are an edition; the capture is the rest. Compared are the judgement
+//! at every place, both readings with tables of eight sizes, demand 3 at the split, each four bytes as the bits of a
+//! coordinate, the field readers on every frame and on the capture, each by both editions and by the input's, and the
+//! feeder on the capture as a line and with made-up streams. A difference is printed and ends the run, and libFuzzer keeps
+//! the input.
 
 #[cfg(not(feature = "wrong"))]
 use radar_reference::compare::feeding::check_feeding;
@@ -18,7 +19,7 @@ use radar_reference::gateway::Gateway as Tried;
 use wrong::Wrong as Tried;
 
 /// The bytes before the capture.
-const CHOICES: usize = 10;
+const CHOICES: usize = 14;
 
 /// The function that libFuzzer calls with each input.
 ///
@@ -41,16 +42,22 @@ pub unsafe extern "C" fn LLVMFuzzerTestOneInput(data: *const u8, size: usize) ->
 fn compare(choices: &[u8], capture: &[u8]) -> Result<(), String> {
     let dialect = u32::from(choices[0] % 3);
     let places: Vec<usize> = choices[1..8].iter().map(|&part| capture.len() * usize::from(part) / 255).collect();
+    let edition = word(&choices[10..]);
     for float in capture.chunks_exact(4) {
-        check_millimetres(&Tried, 1, u32::from_le_bytes([float[0], float[1], float[2], float[3]]))?;
+        [1, 2, edition].into_iter().try_for_each(|edition| check_millimetres(&Tried, edition, word(float)))?;
     }
     check_capture(&Tried, dialect, capture)?;
     #[cfg(not(feature = "wrong"))]
-    check_fields(&Tried, dialect, 1, capture).map_err(|difference| difference.what)?;
+    check_fields(&Tried, dialect, edition, capture).map_err(|difference| difference.what)?;
     #[cfg(not(feature = "wrong"))]
     check_feeding(&Tried, dialect, capture, &places[1..], usize::from(choices[8]), usize::from(choices[9]))?;
     // Last, because it ends with judgements: libFuzzer tries the operands of the last comparisons.
     check_split(&Tried, dialect, capture, places[0])
+}
+
+/// Four bytes, the least significant first.
+fn word(bytes: &[u8]) -> u32 {
+    u32::from_le_bytes([bytes[0], bytes[1], bytes[2], bytes[3]])
 }
 
 #[cfg(feature = "wrong")]
