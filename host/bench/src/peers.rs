@@ -53,7 +53,7 @@ struct CMillimetres {
 
 extern "C" {
     fn c_closed_reading(dialect: u32, bytes: *const u8, count: usize, table: *mut u32, numbers: usize) -> CReading;
-    fn c_millimetres(bits: u32) -> CMillimetres;
+    fn c_millimetres(edition: u32, bits: u32) -> CMillimetres;
     fn count_by_memchr(byte: u8, bytes: *const u8, count: usize) -> usize;
 }
 
@@ -92,8 +92,8 @@ impl Peer {
     pub fn can(self, task: Task) -> bool {
         match self {
             #[cfg(feature = "nom")]
-            Peer::Nom => task != Task::Convert,
-            Peer::Memchr => task != Task::Convert,
+            Peer::Nom => matches!(task, Task::Read(_)),
+            Peer::Memchr => matches!(task, Task::Read(_)),
             _ => true,
         }
     }
@@ -108,7 +108,7 @@ impl Peer {
     pub fn run(self, task: Task, bytes: &[u8], table: &mut [u32]) -> (usize, usize) {
         match task {
             Task::Read(dialect) => self.read(dialect, bytes, table),
-            Task::Convert => self.convert(bytes, table),
+            Task::Convert(edition) => self.convert(edition, bytes, table),
         }
     }
 
@@ -141,20 +141,20 @@ impl Peer {
         }
     }
 
-    fn convert(self, bytes: &[u8], table: &mut [u32]) -> (usize, usize) {
+    fn convert(self, edition: u32, bytes: &[u8], table: &mut [u32]) -> (usize, usize) {
         match self {
             #[cfg(gateway_linked)]
             Peer::Gateway => each_float(bytes, table, |bits| {
                 // SAFETY: numbers only.
-                let answer = unsafe { vq_millimetres(1, bits) };
+                let answer = unsafe { vq_millimetres(edition, bits) };
                 [answer.refusal, answer.value as u32]
             }),
             Peer::C => each_float(bytes, table, |bits| {
                 // SAFETY: numbers only.
-                let answer = unsafe { c_millimetres(bits) };
+                let answer = unsafe { c_millimetres(edition, bits) };
                 [answer.refusal, answer.value as u32]
             }),
-            _ => each_float(bytes, table, |bits| match millimetres(1, bits) {
+            _ => each_float(bytes, table, |bits| match millimetres(edition, bits) {
                 Ok(value) => [0, value as u32],
                 Err(refusal) => [refusal, 0],
             }),
@@ -181,7 +181,7 @@ pub fn demand_agreement(workload: &Workload, bytes: &[u8]) {
     for &peer in Peer::ALL.iter().filter(|peer| peer.reads() && peer.can(workload.task)) {
         let mut table = table_for(bytes);
         let (rows, skipped) = peer.run(workload.task, bytes, &mut table);
-        let per_row = if workload.task == Task::Convert { 2 } else { ROW };
+        let per_row = if matches!(workload.task, Task::Convert(_)) { 2 } else { ROW };
         let found = Found { rows, skipped, hash: hash(&table[..per_row * rows]) };
         let (other, expected) = *first.get_or_insert((peer, found));
         assert_eq!(found, expected, "{} against {} on {}", peer.name(), other.name(), workload.name);

@@ -1,6 +1,6 @@
 //! The buffers that are read: real lines, lines in noise, and bytes chosen to cost as much as can be.
 
-use radar_reference::generate::floats::float_bits;
+use radar_reference::generate::floats::{float_bits, float_half};
 use radar_reference::generate::random::Random;
 use radar_reference::generate::{mmwave, sirad, vital_signs};
 use radar_reference::judgement::{MMWAVE, SIRAD, VITAL_SIGNS};
@@ -11,8 +11,8 @@ use radar_reference::packet_rules::MAGIC;
 pub enum Task {
     /// A closed reading of this dialect.
     Read(u32),
-    /// Each four bytes are the bits of a float, to be given in millimetres.
-    Convert,
+    /// Each four bytes are the bits of a float, to be given in millimetres by this edition.
+    Convert(u32),
 }
 
 /// A kind of buffer.
@@ -38,8 +38,12 @@ const fn read(name: &'static str, dialect: u32, make: fn(&mut Random, usize) -> 
     Workload { name, task: Task::Read(dialect), make }
 }
 
+const fn convert(name: &'static str, edition: u32, make: fn(&mut Random, usize) -> Vec<u8>) -> Workload {
+    Workload { name, task: Task::Convert(edition), make }
+}
+
 /// All workloads, in the order of the tables.
-pub const WORKLOADS: [Workload; 25] = [
+pub const WORKLOADS: [Workload; 28] = [
     read("SiRad T, back to back", SIRAD, |random, size| repeat(size, || targets(random, DIGITS))),
     read("SiRad T, every digit 0", SIRAD, |random, size| repeat(size, || targets(random, b"0"))),
     read("SiRad T, two targets, rest \"0\"", SIRAD, |random, size| repeat(size, || two_targets(random, [b'0'; 14]))),
@@ -69,16 +73,13 @@ pub const WORKLOADS: [Workload; 25] = [
         repeat(size, || with_noise(random, |random| vital_signs::packet(random, 600).expect("room for a packet")))
     }),
     read("vital signs, 32 records", VITAL_SIGNS, |_, size| repeat(size, unfit_vital_signs)),
-    Workload {
-        name: "coordinates to mm",
-        task: Task::Convert,
-        make: |random, size| repeat(size, || coordinate(random)),
-    },
-    Workload {
-        name: "any floats to mm",
-        task: Task::Convert,
-        make: |random, size| repeat(size, || float_bits(random).to_le_bytes().to_vec()),
-    },
+    convert("coordinates to mm", 1, coordinates),
+    convert("any floats to mm", 1, any_floats),
+    convert("coordinates to mm, edition 2", 2, coordinates),
+    convert("any floats to mm, edition 2", 2, any_floats),
+    convert("half millimetres, edition 2", 2, |random, size| {
+        repeat(size, || float_half(random).to_le_bytes().to_vec())
+    }),
 ];
 
 const DIGITS: &[u8] = b"0123456789ABCDEF";
@@ -188,6 +189,14 @@ fn points(random: &mut Random) -> Vec<u8> {
     let side = (0..80).map(|_| random.byte()).collect();
     let statistics = (0..24).map(|_| random.byte()).collect();
     packet(512, 20, &[(1, floats), (7, side), (6, statistics)])
+}
+
+fn coordinates(random: &mut Random, size: usize) -> Vec<u8> {
+    repeat(size, || coordinate(random))
+}
+
+fn any_floats(random: &mut Random, size: usize) -> Vec<u8> {
+    repeat(size, || float_bits(random).to_le_bytes().to_vec())
 }
 
 /// Whole or half millimetres within 12 metres.
