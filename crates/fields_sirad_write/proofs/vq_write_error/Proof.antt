@@ -1,7 +1,7 @@
--- `fields_sirad::vq_write_error` meets its contract: it hands on what it is handed, and the answer's promise is the one called.
+-- `fields_sirad_write::vq_write_error` meets its contract: it hands on what it is handed, and the answer's promise is the one called.
 use borrow.Author.Needs.{needs}
-use Rattle.fields_sirad.proofs.vq_write_error.Statement.{statement}
-use Rattle.fields_sirad.proofs.vq_write_error.Tie as tie
+use Rattle.fields_sirad_write.proofs.vq_write_error.Statement.{statement}
+use Rattle.fields_sirad_write.proofs.vq_write_error.Tie as tie
 
 write-error-requires : tie.Need-write-error-requires
 write-error-requires c κs = search needs
