@@ -1,44 +1,26 @@
-// The judgement of a packet, and its quick way: where the bytes are all there, no field tests their length
-// (paper 01, "mmWave"; paper 02, (i)).
+// The judgement of a packet: its header at once where it is there, else piece by piece (paper 01, "mmWave"; paper 02, (i)).
 ghost use mathlib.Core.Path.{_≡_};
-ghost use mathlib.Core.Bool.{true, false, cond};
-ghost use Prim.Native.Nat.{_+_, _-_, _*_, _≤_, _<_};
+ghost use mathlib.Core.Bool.{true, false};
+ghost use Prim.Native.Nat.{_+_, _-_, _*_, _≤_};
 ghost use lib.ListN.{length, take};
 ghost use Rattle.digits.specs.LittleEndian.{littleAt};
 ghost use Rattle.form.specs.Form.{judge as Form·judge, judgeAt};
 ghost use Rattle.form.specs.Numbers.{Judges};
-ghost use Rattle.mmwave.specs.Profile.{typeOk};
 ghost use Rattle.mmwave.specs.Packet.{magic, records, packet};
 ghost use Rattle.mmwave.specs.Dialects.{profileOf};
-ghost use Rattle.mmwave.specs.Internal.{settled, Settles, dialectOfKind};
 use form::Judgement;
 use mmwave::Header;
 use mmwave::PacketDialect;
-use mmwave_dialects::KIND;
-use mmwave_dialects::kind_of;
 use mmwave_dialects::objects_ok;
 use mmwave_dialects::subframe_ok;
 use mmwave_header::count_ok;
 use mmwave_header::total_ok;
-use mmwave_lengths::length_ok;
-use mmwave_lengths::type_ok;
+use mmwave_inside::judge_records;
 use mmwave_pieces::BAD_COUNT;
 use mmwave_pieces::BAD_FIXED;
 use mmwave_pieces::BAD_TOTAL;
 use mmwave_pieces::NO_MAGIC;
 use mmwave_pieces::judge_pieces;
-use mmwave_records::BAD_LENGTH;
-use mmwave_records::BAD_TYPE;
-use mmwave_records::walk;
-use mmwave_rules::rule_of;
-
-// The number in four bytes that are there.
-fn field(s: &[u8], at: usize) -> u32
-    requires { ⌜ at + 4 ≤ length (now s) ⌝ }
-    ensures { λ r. ⌜ r ≡ littleAt 4 at (now (s .entry)) ⌝ }
-{
-    numbers::join(s[at], s[at + 1], s[at + 2], s[at + 3])
-}
 
 // Whether a, b, c, d are w, x, y, z: compared as one number.
 fn same_four(a: u8, b: u8, c: u8, d: u8, w: u8, x: u8, y: u8, z: u8) -> bool
@@ -58,56 +40,12 @@ fn has_magic(s: &[u8]) -> bool
     false
 }
 
-// The dialect with this kind, 16 or else 17. The walk carries the kind: a number is handed on in a register as it is, an enum is widened
-// at each call.
-fn dialect_of_kind(kind: u32) -> PacketDialect
-    ensures { λ r. ⌜ r ≡ dialectOfKind kind ⌝ }
+// The number at an offset of a header that is there.
+fn number(s: &[u8], at: usize) -> u32
+    requires { ⌜ at + 4 ≤ length (now s) ⌝ }
+    ensures { λ r. ⌜ r ≡ littleAt 4 at (now (s .entry)) ⌝ }
 {
-    if kind == KIND {
-        return PacketDialect::MmWave;
-    }
-    PacketDialect::VitalSigns
-}
-
-// The reason of a record whose payload length does not pass: its type's, if no length of it fits.
-fn refusal_of(tag: u32, objects: u32, k: u32, room: u32, d: PacketDialect) -> u32
-    ensures { λ r. ⌜ r ≡ cond (typeOk (profileOf d) objects k room tag) 24 23 ⌝ }
-{
-    if type_ok(tag, objects, k, room, d) {
-        return BAD_LENGTH;
-    }
-    BAD_TYPE
-}
-
-// The `k` records that the bytes begin with, all of them there with their room: the reason of the first check that fails, or 0.
-// A payload length that passes is one that lets its type pass, so the type is asked only where the length fails.
-fn walk_inside(s: &[u8], objects: u32, k: u32, room: u32, kind: u32) -> u32
-    requires { ⌜ (0 < k) × (8 * k + room ≤ length (now s)) ⌝ }
-    ensures { λ r. ⌜ Settles (profileOf (dialectOfKind kind)) objects k room (now (s .entry)) r ⌝ }
-{
-    let d = dialect_of_kind(kind);
-    let tag = field(s, 0);
-    let rule = rule_of(tag, objects, d);
-    let m = field(s, 4);
-    if length_ok(rule, k, room, m, d) {
-        if k == 1 {
-            return 0;
-        }
-        let next = 8 + (m as usize);
-        return walk_inside(&s[next..], objects, k - 1, room - m, kind);
-    }
-    refusal_of(tag, objects, k, room, d)
-}
-
-// The records of a packet whose bytes are all there; without records there is only padding.
-fn all_records(s: &[u8], objects: u32, k: u32, room: u32, d: PacketDialect) -> u32
-    requires { ⌜ 40 + 8 * k + room ≤ length (now s) ⌝ }
-    ensures { λ r. ⌜ settled (profileOf d) r (40 + 8 * k + room) ≡ judgeAt (records (profileOf d) objects k room) 40 (now (s .entry)) ⌝ }
-{
-    if k == 0 {
-        return 0;
-    }
-    walk_inside(&s[Header::SIZE..], objects, k, room, kind_of(d))
+    numbers::word_at(s, at)
 }
 
 // What follows the header, with a total length and a record count that passed.
@@ -115,16 +53,8 @@ fn behind_header(s: &[u8], l: u32, objects: u32, k: u32, d: PacketDialect) -> Ju
     requires { ⌜ 40 + 8 * k ≤ l ⌝ }
     ensures { λ r. ⌜ r ≡ judgeAt (records (profileOf d) objects k (l - (40 + 8 * k))) 40 (now (s .entry)) ⌝ }
 {
-    let total = l as usize;
-    let room = (total - (Header::SIZE + 8 * (k as usize))) as u32;
-    if s.len() < total {
-        return walk(s, Header::SIZE, objects, k, room, d);
-    }
-    let reason = all_records(s, objects, k, room, d);
-    if reason == 0 {
-        return Judgement::Whole(kind_of(d), total);
-    }
-    Judgement::Bad(reason)
+    let room = (l as usize - (Header::SIZE + 8 * (k as usize))) as u32;
+    judge_records(s, objects, k, room, d)
 }
 
 // The judgement where the header is there.
@@ -133,13 +63,13 @@ fn judge_header(s: &[u8], d: PacketDialect) -> Judgement
     ensures { λ r. ⌜ r ≡ Form·judge (packet (profileOf d)) 0 (now (s .entry)) ⌝ }
 {
     if has_magic(s) {
-        let l = field(s, Header::TOTAL);
+        let l = number(s, Header::TOTAL);
         if total_ok(l, d) {
-            let objects = field(s, Header::OBJECTS);
+            let objects = number(s, Header::OBJECTS);
             if objects_ok(objects, d) {
-                let k = field(s, Header::RECORDS);
+                let k = number(s, Header::RECORDS);
                 if count_ok(l, k, d) {
-                    if subframe_ok(field(s, Header::SUBFRAME), d) {
+                    if subframe_ok(number(s, Header::SUBFRAME), d) {
                         return behind_header(s, l, objects, k, d);
                     }
                     return Judgement::Bad(BAD_FIXED);

@@ -3,8 +3,8 @@ use Rattle.mmwave.specs.Dialects.{profileOf}
 use Rattle.mmwave.proofs.RuleLaws.{kind-names}
 use Rattle.mmwave.proofs.Within.{settled-none, settles-part, settles-as}
 use borrow.Author.Needs.{needs}
-use Rattle.mmwave_judge.proofs.all_records.Statement.{statement}
-use Rattle.mmwave_judge.proofs.all_records.Tie as tie
+use Rattle.mmwave_inside.proofs.all_records.Statement.{statement}
+use Rattle.mmwave_inside.proofs.all_records.Tie as tie
 
 returns : tie.Need-returns
 returns c =

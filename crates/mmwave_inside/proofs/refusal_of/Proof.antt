@@ -1,8 +1,8 @@
 -- One test.
 use Rattle.mmwave.proofs.RuleLaws.{reason-length, reason-type}
 use borrow.Author.Needs.{needs}
-use Rattle.mmwave_judge.proofs.refusal_of.Statement.{statement}
-use Rattle.mmwave_judge.proofs.refusal_of.Tie as tie
+use Rattle.mmwave_inside.proofs.refusal_of.Statement.{statement}
+use Rattle.mmwave_inside.proofs.refusal_of.Tie as tie
 
 type-ok-requires : tie.Need-type-ok-requires
 type-ok-requires c κs = search needs

@@ -3,8 +3,8 @@ use mathlib.Core.Path.{_∙_}
 use native.Mathlib.Omega.{arith}
 use Rattle.form.proofs.PieceLaws.{little-there}
 use borrow.Author.Needs.{needs}
-use Rattle.mmwave_judge.proofs.field.Statement.{statement}
-use Rattle.mmwave_judge.proofs.field.Tie as tie
+use Rattle.mmwave_inside.proofs.field.Statement.{statement}
+use Rattle.mmwave_inside.proofs.field.Tie as tie
 
 shared-slice-read-join : tie.Need-shared-slice-read-join
 shared-slice-read-join c = search needs

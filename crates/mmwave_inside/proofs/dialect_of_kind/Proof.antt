@@ -1,7 +1,7 @@
 -- One test.
 use Rattle.mmwave.proofs.RuleLaws.{kind-first, kind-second}
-use Rattle.mmwave_judge.proofs.dialect_of_kind.Statement.{statement}
-use Rattle.mmwave_judge.proofs.dialect_of_kind.Tie as tie
+use Rattle.mmwave_inside.proofs.dialect_of_kind.Statement.{statement}
+use Rattle.mmwave_inside.proofs.dialect_of_kind.Tie as tie
 
 returns : tie.Need-returns
 returns c = kind-first _ (c .if1 .taken)

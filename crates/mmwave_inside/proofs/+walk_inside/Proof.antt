@@ -9,16 +9,16 @@ use Rattle.mmwave.proofs.Within.{length-within, record-within, rest-within}
 use Prim.Native.Nat.{ℕ, _<_}
 use borrow.Fn.Kinds.{In}
 use borrow.Fn.PlainCycle.{Measures, is, falls, and}
-use Rattle.mmwave_judge.proofs.walk_inside.Reads as walk-inside
-use Rattle.mmwave_judge.proofs.walk_inside.Kinds as walk-inside-kinds
-use Rattle.mmwave_judge.proofs.+walk_inside.Lts-walk_inside as walk-inside-lts
-use Rattle.mmwave_judge.proofs.dialect_of_kind.Reads as dialect-of-kind-reads
-use Rattle.mmwave_judge.proofs.field.Reads as field-reads
-use Rattle.mmwave_judge.proofs.refusal_of.Reads as refusal-of-reads
+use Rattle.mmwave_inside.proofs.walk_inside.Reads as walk-inside
+use Rattle.mmwave_inside.proofs.walk_inside.Kinds as walk-inside-kinds
+use Rattle.mmwave_inside.proofs.+walk_inside.Lts-walk_inside as walk-inside-lts
+use Rattle.mmwave_inside.proofs.dialect_of_kind.Reads as dialect-of-kind-reads
+use Rattle.mmwave_inside.proofs.field.Reads as field-reads
+use Rattle.mmwave_inside.proofs.refusal_of.Reads as refusal-of-reads
 use Rattle.mmwave_rules.proofs.rule_of.Reads as rule-of-reads
 use Rattle.mmwave_lengths.proofs.length_ok.Reads as length-ok-reads
-use Rattle.mmwave_judge.proofs.+walk_inside.{statement}
-use Rattle.mmwave_judge.proofs.+walk_inside.Tie.{close}
+use Rattle.mmwave_inside.proofs.+walk_inside.{statement}
+use Rattle.mmwave_inside.proofs.+walk_inside.Tie.{close}
 
 abbrev μ-walk-inside : Measures 1 walk-inside-kinds.ps ℕ
 μ-walk-inside κs a = a .1 .1 .0
