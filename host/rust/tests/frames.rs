@@ -1,6 +1,6 @@
 //! SiRad frames one by one, with the paper's values: what each writer must write or refuse, and what each reader must answer.
 //!
-//! The reader is asked, and the library if `VQ_LIB_DIR` names the directory that holds `libfields.a`.
+//! The reader is asked, and the library if `VQ_LIB_DIR` names the directory that holds `libvellanquor.a`.
 
 use radar_reference::abi::fields::{DataFrame, ErrorFrame, FieldSubject, StatusFrame, Target, TargetFrame, Written};
 use radar_reference::abi::Reference;
