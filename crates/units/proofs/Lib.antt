@@ -1,4 +1,5 @@
 pub mod Rounding
 pub mod Theorems
 pub mod Bits
+pub mod Phase
 pub mod Machine

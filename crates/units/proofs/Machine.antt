@@ -16,7 +16,7 @@ use Rattle.digits.specs.Bytes.{isCharacter}
 use Rattle.digits.proofs.Choices.{test}
 use Rattle.units.specs.Rounding.{distance, signed, Ties, toAway, halfUp, nearest}
 use Rattle.units.specs.Float.{negative, exponent, fraction, magnitude}
-use Rattle.units.specs.Units.{value, refused, decibels, centidegrees, isEdition, tiesOf, accuracyMillimetres}
+use Rattle.units.specs.Units.{value, refused, decibels, isEdition, tiesOf, accuracyMillimetres}
 use Rattle.units.specs.Units.{wholeMillimetres, noMillimetres, coordinate, millimetres}
 use Rattle.units.specs.Internal.{Inside, parts, outside}
 use Rattle.units.proofs.Rounding.{half-most, fixed, nearest-scaled}
@@ -113,7 +113,7 @@ made-negative sign q h t = rw (t, minus q h) (ap value (toZ-ofZ {w = w32} {z = n
 pub made-positive : (sign : Bool) (q : ℕ) → q ≤ 1000000 → sign ≡ false → value (toZ w32 q) ≡ value (signed sign q)
 made-positive sign q h t = rw t (ap value (toZ-pos w32 {n = q} (omega arith)))
 
--- -- Characters
+-- -- dB
 
 -- a difference by its sign and magnitude
 difference : (c k : ℕ) → signed (ltb c (suc k)) (distance c (suc k)) ≡ pos c -ℤ pos (suc k)
@@ -136,21 +136,6 @@ decibels-value c a t e = simp (t, e) (ap value (difference c 173))
 pub decibels-refused : (c : ℕ) → isCharacter c ≡ false → refused 50 ≡ decibels c
 unfolding decibels
 decibels-refused c t = simp t
-
--- the phase of a character
-pub centidegrees-value : (c a q : ℕ) → isCharacter c ≡ true → a ≡ distance c 144 → q ≡ nearest toAway (1800 * a) 11
-    → value (signed (ltb c 144) q) ≡ centidegrees c
-unfolding centidegrees
-centidegrees-value c a q t e f = simp (t, f, e)
-
--- no phase for any other byte
-pub centidegrees-refused : (c : ℕ) → isCharacter c ≡ false → refused 50 ≡ centidegrees c
-unfolding centidegrees
-centidegrees-refused c t = simp t
-
--- a phase is small
-pub centidegrees-small : (c a q : ℕ) → c < 2 ^ 8 → a ≡ distance c 144 → q ≡ nearest toAway (1800 * a) 11 → q ≤ 1000000
-centidegrees-small c a q h e f = rw f (nearest-most toAway (1800 * a) 11 1000000 (lit< tt) (omega arith))
 
 -- both zeros are 0
 signed-zero : (negative : Bool) → signed negative 0 ≡ pos 0

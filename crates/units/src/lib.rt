@@ -1,5 +1,6 @@
-// The number rules: what characters, accuracies and coordinates mean (paper 01, "Numbers"; paper 02, (iv)).
-// Sign and magnitude stay apart up to `signed_quantity`; the magnitudes are whole numbers, so no rounding but ours takes place.
+// The number rules: what characters, accuracies and coordinates mean (paper 01, "Numbers"; paper 02, (iv), (v)).
+// Sign and magnitude stay apart up to `signed_quantity`, and a phase is worked out half a turn on; so all numbers before the last step are
+// whole and not negative, and no rounding but ours takes place.
 ghost use Prim.Native.Nat.{_^_, _<_, _≤_};
 ghost use mathlib.Core.Path.{_≡_};
 ghost use Rattle.units.specs.Rounding.{distance, signed, halfUp, nearest};
@@ -21,10 +22,18 @@ const ZERO_DECIBELS: u32 = 174;
 
 const ZERO_PHASE: u32 = 144;
 
-// A step of a character is PHASE_STEP / PHASE_PARTS hundredths of a degree.
-const PHASE_STEP: u32 = 1800;
+// 110 steps from character to character are half a turn: each is 1800 / 11 hundredths of a degree.
+const HALF_TURN_STEPS: u32 = 110;
 
-const PHASE_PARTS: u32 = 11;
+const HALF_TURN: i32 = 18000;
+
+// A hundredth of a degree is 2 ^ PHASE_BITS parts and half of one is HALF_PHASE; a step is PHASE_STEP parts and 3 / 11. The 220 steps of a
+// whole turn miss 60 parts by it, and no phase is within 93 parts of a half.
+const PHASE_STEP: u32 = 335127;
+
+const HALF_PHASE: u32 = 1024;
+
+const PHASE_BITS: u32 = 11;
 
 // The editions of the rule at exact halves: the first takes them away from zero, the second to the even neighbour.
 const AWAY_EDITION: u32 = 1;
@@ -76,7 +85,7 @@ fn refusal_of(number: u32) -> Quantity
     }
 }
 
-// The value of this sign and magnitude: the one place that makes a sign.
+// The value of this sign and magnitude.
 fn signed_quantity(negative: bool, magnitude: u32) -> Quantity
     requires { ⌜ magnitude ≤ 1000000 ⌝ }
     ensures { λ r. ⌜ r ≡ value (signed negative magnitude) ⌝ }
@@ -141,14 +150,18 @@ pub fn decibels_of(character: u8) -> Quantity
 }
 
 // What a character means as a phase, in hundredths of a degree: 90 (`Z`) is -8836, and 33 is refused with 50.
+// No division, loop, recursion or table (paper 02, (v)): a multiplication and a shift, half a turn on.
 pub fn centidegrees_of(character: u8) -> Quantity
     ensures { λ r. ⌜ r ≡ centidegrees character ⌝ }
 {
     if digits::is_character(character) {
-        let c = character as u32;
-        let steps = apart(c, ZERO_PHASE);
-        let n = PHASE_STEP * steps;
-        return signed_quantity(c < ZERO_PHASE, rounded(AWAY_EDITION, n, PHASE_PARTS));
+        let steps = (character as u32) + HALF_TURN_STEPS - ZERO_PHASE;
+        let turned = (PHASE_STEP * steps + HALF_PHASE) >> PHASE_BITS;
+        let phase = (turned as i32) - HALF_TURN;
+        return Quantity {
+            refusal: 0,
+            value: phase,
+        };
     }
     refusal_of(NO_ENCODING)
 }

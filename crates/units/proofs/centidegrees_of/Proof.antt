@@ -1,36 +1,39 @@
 -- `units::centidegrees_of` meets its contract: a character is a phase, any other byte is refused.
+use mathlib.Core.Bool.{true}
+use mathlib.Core.Path.{_≡_, sym, _∙_}
 use native.Mathlib.Omega.{arith}
-use mathlib.Core.Path.{sym, _∙_}
 use borrow.Author.Needs.{needs}
-use Rattle.units.specs.Units.{tiesOf}
-use Rattle.units.proofs.Machine.{centidegrees-value, centidegrees-refused, centidegrees-small}
+use Rattle.digits.specs.Bytes.{isCharacter}
+use Rattle.units.proofs.Phase.{bounds, half-turn-fits, centidegrees-value, centidegrees-refused}
 use Rattle.units.proofs.centidegrees_of.Statement.{statement}
 use Rattle.units.proofs.centidegrees_of.Tie as tie
 
 is-character-requires : tie.Need-is-character-requires
 is-character-requires c κs = search needs
 
-apart-requires : tie.Need-apart-requires
-apart-requires c κs = search needs
+is : (c : tie.Then1) → isCharacter (c .before .before .args .character) ≡ true
+is c = sym (c .before .is-character .ensures) ∙ c .if1 .taken
 
-mul-n : tie.Need-mul-n
-mul-n c = search needs
+add-steps : tie.Need-add-steps
+add-steps c = search needs
 
-rounded-requires : tie.Need-rounded-requires
-rounded-requires c κs = search needs
+sub-steps : tie.Need-sub-steps
+sub-steps c = let b = bounds (c .before .before .args .character) (is c) in omega arith
 
-signed-quantity-requires : tie.Need-signed-quantity-requires
-unfolding tiesOf
-signed-quantity-requires c κs =
-    let character = c .before .before .before .before .args .character in
-    centidegrees-small character _ _ (omega arith) (c .before .apart .ensures) (c .rounded .ensures)
+mul-turned : tie.Need-mul-turned
+mul-turned c = search needs
+
+add-turned : tie.Need-add-turned
+add-turned c = search needs
+
+cast-phase : tie.Need-cast-phase
+cast-phase c = search needs
+
+sub-phase : tie.Need-sub-phase
+sub-phase c = half-turn-fits (cast-phase c)
 
 returns : tie.Need-returns
-unfolding tiesOf
-returns c =
-    let w = c .before .before in
-    let is = sym (w .before .before .is-character .ensures) ∙ w .before .if1 .taken in
-    c .signed-quantity .ensures ∙ centidegrees-value _ _ _ is (w .apart .ensures) (c .before .rounded .ensures)
+returns c = centidegrees-value _ (is c)
 
 refusal-of-requires : tie.Need-refusal-of-requires
 refusal-of-requires c κs = search needs
@@ -43,10 +46,12 @@ centidegrees-of-spec =
     tie.close
     (tie.spec
     is-character-requires
-    apart-requires
-    mul-n
-    rounded-requires
-    signed-quantity-requires
+    add-steps
+    sub-steps
+    mul-turned
+    add-turned
+    cast-phase
+    sub-phase
     returns
     refusal-of-requires
     returns-2)
