@@ -5,6 +5,7 @@ set -eu
 cd "$(dirname "$0")/.."
 faces="gateway readings feeder fields_sirad fields_sirad_write fields_packet fields_command"
 built=target/staticlib
+mkdir -p $built
 
 script="create $built/libvellanquor.a"
 for face in $faces; do

@@ -38,6 +38,16 @@ static void millimetres(void)
     }
 }
 
+/* Both ends, the paper's two, zero and those beside it, and bytes that are no character. */
+static void centidegrees(void)
+{
+    static const uint8_t characters[] = {33, 34, 36, 90, 143, 144, 145, 254, 255, 0};
+    for (size_t i = 0; i < sizeof characters; i++) {
+        struct vq_centidegrees c = vq_centidegrees(characters[i]);
+        printf("centidegrees %d: %" PRIu32 " %" PRId32 "\n", characters[i], c.refusal, c.value);
+    }
+}
+
 static void read_both(const char *what, uint32_t dialect, const void *bytes, size_t count, size_t numbers)
 {
     for (int closed = 0; closed < 2; closed++) {
@@ -149,6 +159,7 @@ int main(void)
     judge("many bytes", 0, large, sizeof large - 1, sizeof large - 3);
 
     millimetres();
+    centidegrees();
 
     read_both("capture", 0, capture, 29, 12);
     read_both("one row", 0, capture, 29, 5);

@@ -34,7 +34,7 @@ for listing in captures/*.txt; do
   capture=${listing%.txt}.bin
   case $capture in *mmwave*) dialect=mmwave ;; *vital-signs*) dialect=vital-signs ;; *) dialect=sirad ;; esac
   "$built/gateway_demo" "$dialect" "$capture" >"$built/read" || exit 1
-  grep -v -e '^point ' -e '^record' -e '^a line ' "$built/read" | cmp - "$listing" || { echo "host: gateway_demo on $capture"; exit 1; }
+  grep -v -e '^point ' -e '^phase ' -e '^record' -e '^a line ' "$built/read" | cmp - "$listing" || { echo "host: gateway_demo on $capture"; exit 1; }
   # A line that goes on has the rows before the place where it waits.
   awk -F '\t' '/^kind/ { print } /^[A-Z]\t/ { row[++rows] = $0; place[rows] = $2 } /^end/ { end = $2 }
     /^a line/ { sub(/.* /, ""); next_place = $0 + 0 }
@@ -56,6 +56,19 @@ if "$built/gateway_demo" mmwave captures/mmwave-points.bin 3 >"$built/read" 2>&1
   echo "host: gateway_demo takes edition 3"
   exit 1
 fi
+
+# The first phases of each P frame, in whole hundredths of a degree; no character lies between two of them.
+"$built/gateway_demo" sirad captures/sirad-mix.bin >"$built/read" || exit 1
+python3 - >"$built/rows" <<'END'
+capture = open("captures/sirad-mix.bin", "rb").read()
+for row in open("captures/sirad-mix.txt"):
+    kind, place, length = row.split("\t")
+    if kind == "P":
+        for index, character in enumerate(capture[int(place) + 14:int(place) + int(length) - 2][:4]):
+            print(f"phase {index}\t{round(1800 * (character - 144) / 11)}")
+END
+[ "$(wc -l <"$built/rows")" -ge 8 ] || { echo "host: too few phases in sirad-mix"; exit 1; }
+grep '^phase ' "$built/read" | cmp - "$built/rows" || { echo "host: gateway_demo on phases"; exit 1; }
 
 # More frames at once than the first table has rows, and a line longer than a stream.
 awk 'BEGIN { for (i = 0; i < 130000; i++) printf "!E0000\r\n " }' >"$built/long"

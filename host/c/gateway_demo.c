@@ -1,6 +1,7 @@
 /*
  * What the fare gateway's host does with a capture: reads a file, walks it with the closed reading, prints a row for each
- * frame, turns the points of mmWave packets into millimetres, and names the records of vital-signs packets.
+ * frame, turns the points of mmWave packets into millimetres and the characters of P frames into phases, and names the
+ * records of vital-signs packets.
  *
  *   gateway_demo sirad|mmwave|vital-signs FILE [1|2]
  *
@@ -19,8 +20,9 @@
 /* Rows of the table; a capture with more frames is read in several calls. */
 #define ROWS 64
 
-/* Points printed for each packet. */
+/* Points printed for each packet, and phases for each P frame. */
 #define POINTS 4
+#define PHASES 4
 
 /* mmWave: where the header's counts stand, and the sizes (document 004; the header's fields add up to 40). */
 #define OBJECT_COUNT 28
@@ -93,6 +95,17 @@ static void print_records(const uint8_t *packet, size_t length)
     }
 }
 
+/* The first phases of a whole P frame, in hundredths of a degree. All its characters have one. */
+static void print_phases(const uint8_t *frame, size_t length)
+{
+    const struct vq_data_frame data = vq_read_data(frame, length);
+    uint64_t index;
+
+    for (index = 0; index < data.size && index < PHASES; index++) {
+        printf("phase %lu\t%ld\n", (unsigned long)index, (long)vq_centidegrees(frame[data.start + index]).value);
+    }
+}
+
 /* All of the file, or a null pointer. One byte more than the limit is enough to be refused. */
 static uint8_t *read_file(const char *name, size_t *count)
 {
@@ -139,6 +152,8 @@ static int walk(uint32_t dialect, uint32_t edition, const uint8_t *bytes, size_t
             printf("%c\t%lu\t%lu\n", letter_of(numbers[2]), (unsigned long)place, (unsigned long)numbers[1]);
             if (numbers[2] == VQ_KIND_PACKET) {
                 print_points(edition, bytes + place, numbers[1]);
+            } else if (numbers[2] == VQ_KIND_PHASE) {
+                print_phases(bytes + place, numbers[1]);
             } else if (numbers[2] == VQ_KIND_VITAL_SIGNS) {
                 print_records(bytes + place, numbers[1]);
             }

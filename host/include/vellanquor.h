@@ -97,7 +97,7 @@ extern "C" {
 #define VQ_REFUSED_CODE 44u      /* an unknown command code */
 #define VQ_REFUSED_PAYLOAD 45u   /* the payload count is wrong for the code, or over 30 */
 #define VQ_REFUSED_SELECTION 46u /* a selection word is out of range */
-#define VQ_REFUSED_ENCODING 50u  /* a value without an encoding */
+#define VQ_REFUSED_ENCODING 50u  /* a value without an encoding, or a byte that is no character */
 #define VQ_REFUSED_OUTPUT 51u    /* the output is too short */
 #define VQ_REFUSED_DATA 52u      /* over 65,535 data characters */
 #define VQ_REFUSED_KIND 53u      /* a kind that has no data frame */
@@ -137,6 +137,20 @@ struct vq_millimetres {
 };
 
 struct vq_millimetres vq_millimetres(uint32_t edition, uint32_t bits);
+
+/*
+ * What a data character of a P frame means: the whole number of hundredths of a degree nearest to
+ * 1800 (character - 144) / 11, which is never a half. 90 (`Z`) is -8836.
+ *   refusal  0, or 50 for a byte other than 34 to 254
+ *   value    -18000 to 18000
+ * It takes a multiplication and a shift: no divide instruction, no call, no loop and no table.
+ */
+struct vq_centidegrees {
+    uint32_t refusal;
+    int32_t value;
+};
+
+struct vq_centidegrees vq_centidegrees(uint8_t character);
 
 /*
  * A reading from the first byte on. It writes a row (place, length, kind) for each frame and goes on behind it; at any
@@ -222,7 +236,8 @@ struct vq_written {
 };
 
 /*
- * The data of a frame R, P or C: its kind (1 to 3), and the part of the frame that holds its characters.
+ * The data of a frame R, P or C: its kind (1 to 3), and the part of the frame that holds its characters. Those of a P
+ * frame are phases (vq_centidegrees).
  *   refusal  0, or 5; in writing 0, or 53, 52, 50, 51: the first of them in this order that applies
  */
 struct vq_data_frame {

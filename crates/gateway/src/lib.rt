@@ -1,4 +1,4 @@
-// The C face: what a host in C calls (paper 01, "written in C, calls the judgement and the millimetre rule").
+// The C face: what a host in C calls (paper 01, "written in C, calls the judgement and the millimetre rule"; paper 02, (v): the phase).
 // A slice is a pointer that is not null and a count; the numbers of each answer are those of paper 01.
 
 use capture::Verdict;
@@ -7,7 +7,7 @@ use units::Quantity;
 ghost use mathlib.Core.Path.{_≡_};
 ghost use Rattle.capture.specs.Dialects.{dialectOf};
 ghost use Rattle.capture.specs.Entries.{verdict, verdictNumbers};
-ghost use Rattle.units.specs.Units.{millimetres};
+ghost use Rattle.units.specs.Units.{centidegrees, millimetres};
 
 // The judgement of the bytes from `offset` on: `!E0000`, CR, LF in dialect 0 at offset 0 is whole (state 1), of kind 6 and 8 bytes.
 // With a refusal every other number is 0, and no state is.
@@ -34,4 +34,12 @@ pub extern "C" fn vq_millimetres(edition: u32, bits: u32) -> Quantity
     ensures { λ r. ⌜ r ≡ millimetres edition bits ⌝ }
 {
     units::coordinate_to_millimetres(edition, bits)
+}
+
+// What a character means as a phase, in hundredths of a degree, or the refusal number: 90 (`Z`) is -8836, and 33 is refused with 50.
+#[no_mangle]
+pub extern "C" fn vq_centidegrees(character: u8) -> Quantity
+    ensures { λ r. ⌜ r ≡ centidegrees character ⌝ }
+{
+    units::centidegrees_of(character)
 }

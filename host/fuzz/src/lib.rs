@@ -62,7 +62,7 @@ fn word(bytes: &[u8]) -> u32 {
 
 #[cfg(feature = "wrong")]
 mod wrong {
-    use radar_reference::abi::{Judgement, Millimetres, Reading, Reference, Subject, BAD};
+    use radar_reference::abi::{Centidegrees, Judgement, Millimetres, Reading, Reference, Subject, BAD};
 
     /// The independent reader, but it does not take 254 for a character in the gain of a U frame.
     pub struct Wrong;
@@ -78,6 +78,10 @@ mod wrong {
 
         fn millimetres(&self, edition: u32, bits: u32) -> Millimetres {
             Reference.millimetres(edition, bits)
+        }
+
+        fn centidegrees(&self, character: u8) -> Centidegrees {
+            Reference.centidegrees(character)
         }
 
         fn open_reading(&self, dialect: u32, bytes: &[u8], table: &mut [u32]) -> Reading {

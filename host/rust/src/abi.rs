@@ -4,7 +4,7 @@ pub mod feeding;
 pub mod fields;
 
 use crate::judgement::{self, judge};
-use crate::numbers::millimetres;
+use crate::numbers::{millimetres, phase_hundredths};
 use crate::reading::{self, closed_reading, open_reading};
 use crate::refusal::Refusal;
 
@@ -25,6 +25,15 @@ pub struct Judgement {
 #[derive(Clone, Copy, Debug, Default, PartialEq, Eq)]
 #[allow(missing_docs)]
 pub struct Millimetres {
+    pub refusal: u32,
+    pub value: i32,
+}
+
+/// `struct vq_centidegrees`.
+#[repr(C)]
+#[derive(Clone, Copy, Debug, Default, PartialEq, Eq)]
+#[allow(missing_docs)]
+pub struct Centidegrees {
     pub refusal: u32,
     pub value: i32,
 }
@@ -71,6 +80,15 @@ impl From<Result<i32, Refusal>> for Millimetres {
     }
 }
 
+impl From<Result<i32, Refusal>> for Centidegrees {
+    fn from(answer: Result<i32, Refusal>) -> Centidegrees {
+        match answer {
+            Ok(value) => Centidegrees { refusal: 0, value },
+            Err(refusal) => Centidegrees { refusal, value: 0 },
+        }
+    }
+}
+
 impl From<Result<reading::Reading, Refusal>> for Reading {
     fn from(answer: Result<reading::Reading, Refusal>) -> Reading {
         match answer {
@@ -82,12 +100,14 @@ impl From<Result<reading::Reading, Refusal>> for Reading {
     }
 }
 
-/// What can be compared: the judgement, the millimetre rule and both readings.
+/// What can be compared: the judgement, the millimetre rule, the phase rule and both readings.
 pub trait Subject {
     /// `vq_judge`.
     fn judge(&self, dialect: u32, bytes: &[u8], place: usize) -> Judgement;
     /// `vq_millimetres`.
     fn millimetres(&self, edition: u32, bits: u32) -> Millimetres;
+    /// `vq_centidegrees`.
+    fn centidegrees(&self, character: u8) -> Centidegrees;
     /// `vq_open_reading`.
     fn open_reading(&self, dialect: u32, bytes: &[u8], table: &mut [u32]) -> Reading;
     /// `vq_closed_reading`.
@@ -104,6 +124,10 @@ impl Subject for Reference {
 
     fn millimetres(&self, edition: u32, bits: u32) -> Millimetres {
         millimetres(edition, bits).into()
+    }
+
+    fn centidegrees(&self, character: u8) -> Centidegrees {
+        phase_hundredths(character).into()
     }
 
     fn open_reading(&self, dialect: u32, bytes: &[u8], table: &mut [u32]) -> Reading {
@@ -125,6 +149,7 @@ mod tests {
         assert_eq!((size_of::<Judgement>(), align_of::<Judgement>()), (24, 8));
         assert_eq!(offset_of!(Judgement, length), 16);
         assert_eq!((size_of::<Millimetres>(), align_of::<Millimetres>()), (8, 4));
+        assert_eq!((size_of::<Centidegrees>(), align_of::<Centidegrees>()), (8, 4));
         assert_eq!((size_of::<Reading>(), align_of::<Reading>()), (32, 8));
         assert_eq!(offset_of!(Reading, rows), 8);
     }
@@ -135,6 +160,7 @@ mod tests {
         assert_eq!(Reference.judge(9, b"!", 0), Judgement { refusal: 1, ..Judgement::default() });
         assert_eq!(Reference.millimetres(2, 0x7F80_0000), Millimetres { refusal: 30, value: 0 });
         assert_eq!(Reference.millimetres(3, 0x3D80_0000), Millimetres { refusal: 32, value: 0 });
+        assert_eq!(Reference.centidegrees(33), Centidegrees { refusal: 50, value: 0 });
         assert_eq!(Reference.open_reading(9, b"!", &mut table), Reading { refusal: 1, ..Reading::default() });
         assert_eq!(Reference.closed_reading(9, b"!", &mut table), Reading { refusal: 1, ..Reading::default() });
     }

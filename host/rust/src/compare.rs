@@ -1,5 +1,5 @@
-//! A subject against the reader: judgements, readings, millimetres, and demand 3 on the subject's own answers; fields and
-//! commands in [`fields`], the feeder in [`feeding`].
+//! A subject against the reader: judgements, readings, millimetres, phases, and demand 3 on the subject's own answers; fields
+//! and commands in [`fields`], the feeder in [`feeding`].
 //!
 //! Every run is fixed by its first seed. The first difference ends it and tells the seed and the bytes.
 
@@ -9,7 +9,7 @@ pub mod fields;
 use std::collections::BTreeMap;
 use std::fmt;
 
-use crate::abi::{Judgement, Reading, Reference, Subject, BAD, WAITING, WHOLE};
+use crate::abi::{Centidegrees, Judgement, Reading, Reference, Subject, BAD, WAITING, WHOLE};
 use crate::generate::floats::{float_bits, float_edges, wrong_edition, wrong_editions};
 use crate::generate::random::Random;
 use crate::generate::{capture, mmwave, vital_signs, Family, DIALECT_NAMES};
@@ -85,6 +85,14 @@ impl Tally {
         self.count(match answer.refusal {
             0 => format!("{name}, state {}", answer.state),
             refusal => format!("{name}, refused {refusal}"),
+        });
+    }
+
+    fn count_phase(&mut self, answer: &Centidegrees) {
+        self.count(match answer.refusal {
+            0 if answer.value == 0 => "zero".to_owned(),
+            0 => (if answer.value < 0 { "below zero" } else { "above zero" }).to_owned(),
+            refusal => format!("refused {refusal}"),
         });
     }
 
@@ -193,6 +201,15 @@ pub fn check_millimetres(subject: &dyn Subject, edition: u32, bits: u32) -> Resu
         return Ok(());
     }
     Err(format!("millimetres of {bits:08X} by edition {edition}: expected {expected:?}, answered {answer:?}"))
+}
+
+/// Compares the phase of one byte.
+pub fn check_centidegrees(subject: &dyn Subject, character: u8) -> Result<Centidegrees, String> {
+    let (expected, answer) = (Reference.centidegrees(character), subject.centidegrees(character));
+    if answer == expected {
+        return Ok(answer);
+    }
+    Err(format!("centidegrees of {character}: expected {expected:?}, answered {answer:?}"))
 }
 
 /// Every place of a short capture, both readings, tables of several sizes: what a fuzzer calls.
@@ -380,6 +397,17 @@ pub fn compare_every_float(subject: &dyn Subject, step: usize) -> Result<u64, Di
         run.compare(&EDITIONS, bits, &|| "all floats".to_owned())?;
     }
     Ok(run.done)
+}
+
+/// The phases of all 256 bytes.
+pub fn compare_centidegrees(subject: &dyn Subject) -> Result<Tally, Difference> {
+    let mut tally = Tally::default();
+    for character in 0..=255 {
+        let answer = check_centidegrees(subject, character);
+        let origin = "all bytes as characters".to_owned();
+        tally.count_phase(&answer.map_err(|what| Difference { what, origin, bytes: vec![character] })?);
+    }
+    Ok(tally)
 }
 
 /// Every split A, B of so many short captures: the subject against the reader on A, and demand 3 on the subject's own

@@ -7,11 +7,12 @@ use crate::abi::feeding::{Fed, FeedSubject, Stream};
 use crate::abi::fields::{
     Command, DataFrame, ErrorFrame, FieldSubject, Header, Point, Record, StatusFrame, Step, TargetFrame, Written,
 };
-use crate::abi::{Judgement, Millimetres, Reading, Subject};
+use crate::abi::{Centidegrees, Judgement, Millimetres, Reading, Subject};
 
 extern "C" {
     fn vq_judge(dialect: u32, bytes: *const u8, count: usize, offset: usize) -> Judgement;
     fn vq_millimetres(edition: u32, bits: u32) -> Millimetres;
+    fn vq_centidegrees(character: u8) -> Centidegrees;
 }
 
 extern "C" {
@@ -71,6 +72,11 @@ impl Subject for Gateway {
     fn millimetres(&self, edition: u32, bits: u32) -> Millimetres {
         // SAFETY: numbers only.
         unsafe { vq_millimetres(edition, bits) }
+    }
+
+    fn centidegrees(&self, character: u8) -> Centidegrees {
+        // SAFETY: a number only.
+        unsafe { vq_centidegrees(character) }
     }
 
     fn open_reading(&self, dialect: u32, bytes: &[u8], table: &mut [u32]) -> Reading {

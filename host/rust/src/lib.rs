@@ -1,4 +1,4 @@
-//! A plain reader of the radar wires, written from paper 01 ("What gets built and its exact rules"), paper 02 (i) to (iv)
+//! A plain reader of the radar wires, written from paper 01 ("What gets built and its exact rules"), paper 02 (i) to (v)
 //! and the makers' documents 000 to 004 alone. It is slow where slow is clearer, and it exists to be compared with.
 //!
 //! | Module | What it holds | Paper 01; paper 02 |
@@ -10,7 +10,7 @@
 //! | [`mmwave`], [`vital_signs`] | the rules of each packet dialect | "The three wires"; (i) |
 //! | [`reading`] | the open and the closed reading, the choice of two lines | "Two readings" |
 //! | [`feeder`] | bytes as the port gives them | (iii) |
-//! | [`numbers`] | dB, phase, accuracy, millimetres | "Numbers"; (iv) |
+//! | [`numbers`] | dB, phase, accuracy, millimetres | "Numbers"; (iv), (v) changes no answer |
 //! | [`sirad_fields`], [`packet`] | what a whole frame holds, and SiRad writing | "Fields"; (ii), (iv) |
 //! | [`demorad`] | command words, both ways | "DemoRad" |
 //! | [`listing`] | what the listing programs print | "The listing" |

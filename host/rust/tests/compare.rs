@@ -6,10 +6,10 @@
 mod editions;
 
 use editions::{is_wrong, Renaming, OTHER_EDITIONS};
-use radar_reference::abi::{Judgement, Millimetres, Reading, Reference, Subject, BAD, WAITING, WHOLE};
+use radar_reference::abi::{Centidegrees, Judgement, Millimetres, Reading, Reference, Subject, BAD, WAITING, WHOLE};
 use radar_reference::compare::{
-    check_capture, compare_every_float, compare_judgements, compare_millimetres, compare_readings, compare_splits,
-    Difference, Tally,
+    check_capture, compare_centidegrees, compare_every_float, compare_judgements, compare_millimetres,
+    compare_readings, compare_splits, Difference, Tally,
 };
 use radar_reference::judgement;
 use radar_reference::numbers::EDITIONS;
@@ -58,6 +58,13 @@ fn assert_all_readings_seen(tally: &Tally) {
     }
 }
 
+/// All 256 bytes: 34 to 143, 144, 145 to 254, and the others.
+fn assert_all_phases_seen(tally: &Tally) {
+    let answers = ["below zero", "zero", "above zero", "refused 50"].map(|answer| tally.of(answer));
+    assert_eq!(answers, [110, 1, 110, 35], "{tally}");
+    assert_eq!(tally.total, 256);
+}
+
 #[cfg(gateway_linked)]
 mod library {
     use super::*;
@@ -102,6 +109,13 @@ mod library {
     }
 
     #[test]
+    fn centidegrees_agree() {
+        let tally = agreed(compare_centidegrees(&Gateway));
+        println!("phases: {tally}");
+        assert_all_phases_seen(&tally);
+    }
+
+    #[test]
     fn demand_3_holds_at_every_split() {
         let splits = agreed(compare_splits(&Gateway, first_seed(), SPLIT_CAPTURES));
         println!("splits: {splits}");
@@ -134,6 +148,8 @@ fn the_splits_that_are_compared_are_many() {
 /// The millimetres by an edition, of a float's bits.
 type Conversion = fn(u32, u32) -> Millimetres;
 type Rounding = fn(f64) -> f64;
+/// The centidegrees of the character so many steps behind 144.
+type Phase = fn(i32) -> i32;
 
 /// The reader with one function replaced.
 #[derive(Clone, Copy)]
@@ -149,6 +165,9 @@ enum Wrong {
     Rounds(u32, Rounding),
     /// Another edition for the one named.
     Edition(Renaming),
+    /// The phase so, with the right refusals.
+    Phase(Phase),
+    Centidegrees(fn(u8) -> Centidegrees),
     Read(fn(bool, u32, &[u8], &mut [u32]) -> Reading),
 }
 
@@ -172,6 +191,17 @@ impl Subject for Wrong {
                 Millimetres { refusal: 0, value: round(f64::from(f32::from_bits(bits)) * 1000.0) as i32 }
             }
             Wrong::Edition(other) => Reference.millimetres(other(edition), bits),
+            _ => right,
+        }
+    }
+
+    fn centidegrees(&self, character: u8) -> Centidegrees {
+        let right = Reference.centidegrees(character);
+        match self {
+            Wrong::Phase(phase) if right.refusal == 0 => {
+                Centidegrees { refusal: 0, value: phase(i32::from(character) - 144) }
+            }
+            Wrong::Centidegrees(centidegrees) => centidegrees(character),
             _ => right,
         }
     }
@@ -1031,6 +1061,98 @@ fn wrong_millimetres_are_found_among_all_floats() {
         let found = compare_every_float(&Wrong::Rounds(edition, f64::trunc), STEP);
         assert!(found.is_err(), "not found: truncated by edition {edition}");
     }
+}
+
+/// The exact phase in hundredths of a degree.
+fn exact_phase(steps: i32) -> f64 {
+    f64::from(1800 * steps) / 11.0
+}
+
+fn right_phase(steps: i32) -> i32 {
+    exact_phase(steps).round() as i32
+}
+
+/// The phase half a turn on by parts of a hundredth, so many bits of them, without the half turn.
+fn turned(bits: u32, step: i32, steps: i32) -> i32 {
+    ((step * (steps + 110) + (1 << (bits - 1))) >> bits) - 18_000
+}
+
+/// A multiplication and a shift are right with 41,891 / 256, and half a turn on with 335,127 / 2048.
+const WRONG_PHASES: &[(&str, Phase)] = &[
+    ("truncated", |steps| exact_phase(steps) as i32),
+    ("rounded down", |steps| exact_phase(steps).floor() as i32),
+    ("rounded up", |steps| exact_phase(steps).ceil() as i32),
+    ("a half is added below zero too", |steps| (3600 * steps + 11) / 22),
+    ("145 is zero", |steps| right_phase(steps - 1)),
+    ("143 is zero", |steps| right_phase(steps + 1)),
+    ("the sign is turned", |steps| -right_phase(steps)),
+    ("the sign is lost", |steps| right_phase(steps).abs()),
+    ("254 is -180 degrees", |steps| if steps == 110 { -18_000 } else { right_phase(steps) }),
+    ("tenths of a degree", |steps| 10 * (exact_phase(steps) / 10.0).round() as i32),
+    ("a step of 7 bits", |steps| (20_945 * steps + 64) >> 7),
+    ("a step that is too small", |steps| (41_890 * steps + 128) >> 8),
+    ("a step that is too great", |steps| (41_892 * steps + 128) >> 8),
+    ("a step of 10 bits, cut off: six characters are wrong", |steps| (167_563 * steps + 512) >> 10),
+    ("the half is left out", |steps| (41_891 * steps) >> 8),
+    ("the shift rounds up", |steps| (41_891 * steps + 255) >> 8),
+    ("the shift loses the sign", |steps| ((41_891 * steps + 128) as u32 >> 8) as i32),
+    ("half a turn on, 8 bits: nine characters are wrong", |steps| turned(8, 41_891, steps)),
+    ("half a turn on, a step that is too small", |steps| turned(11, 335_126, steps)),
+    ("half a turn on, a step that is too great", |steps| turned(11, 335_128, steps)),
+    ("the product has 16 bits", |steps| (f64::from((1800 * steps) as i16) / 11.0).round() as i32),
+];
+
+/// The phase of a byte, whether it is a character or not.
+fn of_any_byte(byte: u8) -> Centidegrees {
+    Centidegrees { refusal: 0, value: right_phase(i32::from(byte) - 144) }
+}
+
+/// The right answer but for one byte, which is refused.
+fn refused_at(refused: u8, byte: u8) -> Centidegrees {
+    Reference.centidegrees(if byte == refused { 0 } else { byte })
+}
+
+/// What becomes of a byte that is refused.
+fn refused_as(byte: u8, otherwise: fn(u8) -> Centidegrees) -> Centidegrees {
+    match Reference.centidegrees(byte) {
+        right if right.refusal == 0 => right,
+        _ => otherwise(byte),
+    }
+}
+
+const WRONG_CENTIDEGREES: &[(&str, Wrong)] = &[
+    (
+        "33 is a character",
+        Wrong::Centidegrees(|byte| if byte == 33 { of_any_byte(byte) } else { Reference.centidegrees(byte) }),
+    ),
+    (
+        "255 is a character",
+        Wrong::Centidegrees(|byte| if byte == 255 { of_any_byte(byte) } else { Reference.centidegrees(byte) }),
+    ),
+    ("34 is refused", Wrong::Centidegrees(|byte| refused_at(34, byte))),
+    ("254 is refused", Wrong::Centidegrees(|byte| refused_at(254, byte))),
+    ("50 is told as 51", Wrong::Centidegrees(|byte| refused_as(byte, |_| Centidegrees { refusal: 51, value: 0 }))),
+    (
+        "50 leaves the value",
+        Wrong::Centidegrees(|byte| refused_as(byte, |byte| Centidegrees { refusal: 50, ..of_any_byte(byte) })),
+    ),
+    ("any other byte is 0 degrees", Wrong::Centidegrees(|byte| refused_as(byte, |_| Centidegrees::default()))),
+];
+
+#[test]
+fn wrong_centidegrees_are_found() {
+    let phases = WRONG_PHASES.iter().map(|&(name, phase)| (name, Wrong::Phase(phase)));
+    for (name, wrong) in phases.chain(WRONG_CENTIDEGREES.iter().copied()) {
+        let found = compare_centidegrees(&wrong);
+        assert!(found.is_err(), "not found: {name}");
+    }
+    let tally = agreed(compare_centidegrees(&Reference));
+    println!("phases: {tally}");
+    assert_all_phases_seen(&tally);
+    // What the wrong ones are made of is right.
+    agreed(compare_centidegrees(&Wrong::Phase(right_phase)));
+    agreed(compare_centidegrees(&Wrong::Phase(|steps| (41_891 * steps + 128) >> 8)));
+    agreed(compare_centidegrees(&Wrong::Phase(|steps| turned(11, 335_127, steps))));
 }
 
 fn right_reading(closed: bool, dialect: u32, bytes: &[u8], table: &mut [u32]) -> Reading {

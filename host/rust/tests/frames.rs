@@ -3,7 +3,7 @@
 //! The reader is asked, and the library if `VQ_LIB_DIR` names the directory that holds `libvellanquor.a`.
 
 use radar_reference::abi::fields::{DataFrame, ErrorFrame, FieldSubject, StatusFrame, Target, TargetFrame, Written};
-use radar_reference::abi::Reference;
+use radar_reference::abi::{Centidegrees, Reference, Subject};
 use radar_reference::generate::floats::wrong_editions;
 use radar_reference::numbers::EDITIONS;
 
@@ -108,6 +108,26 @@ fn data_read() {
         let whole = DataFrame { refusal: 0, kind: 1, start: 14, size: 2 };
         assert_eq!(subject.read_data(b"!R0002abcdefgh\"Z\r\n"), whole);
         assert_eq!(subject.read_data(b"!R0002abcd fgh\"Z\r\n"), DataFrame { refusal: 5, ..DataFrame::default() });
+    }
+}
+
+#[test]
+fn phases_of_a_frame() {
+    let frame = b"!P000700000000\"$Z\x8F\x90\x91\xFE\r\n";
+    let phases = [-18_000, -17_673, -8_836, -164, 0, 164, 18_000];
+    let numbers: Vec<&dyn Subject> = vec![
+        &Reference,
+        #[cfg(gateway_linked)]
+        &radar_reference::gateway::Gateway,
+    ];
+    for (fields, numbers) in subjects().into_iter().zip(numbers) {
+        assert_eq!(fields.read_data(frame), DataFrame { refusal: 0, kind: 2, start: 14, size: 7 });
+        for (&character, value) in frame[14..21].iter().zip(phases) {
+            assert_eq!(numbers.centidegrees(character), Centidegrees { refusal: 0, value });
+        }
+        for other in [0, 10, 13, 32, 33, 255] {
+            assert_eq!(numbers.centidegrees(other), Centidegrees { refusal: 50, value: 0 });
+        }
     }
 }
 
