@@ -92,16 +92,16 @@ pub fn mark(name: &str) {
     assert_eq!(unsafe { mark_counts(name.as_ptr()) }, 1, "built without valgrind/callgrind.h");
 }
 
-/// One peer on one workload of the greatest size, each by its name in the tables.
-pub fn run_one(peer: &str, workload: &str) {
+/// One peer on one workload of this size, each by its name in the tables.
+pub fn run_one(peer: &str, workload: &str, size: usize) {
     let peer = Peer::ALL.iter().find(|known| known.name() == peer).expect("a peer of the tables");
     let workload = WORKLOADS.iter().find(|known| known.name == workload).expect("a workload of the tables");
-    let bytes = workload.bytes(SIZES[SIZES.len() - 1]);
+    let bytes = workload.bytes(size);
     let mut table = table_for(&bytes);
     println!("{:?}", measured(*peer, workload.task, black_box(&bytes), &mut table));
 }
 
-/// What callgrind collects of readings and conversions.
+/// What callgrind collects of readings, conversions and phases.
 #[no_mangle]
 #[inline(never)]
 pub fn measured(peer: Peer, task: Task, bytes: &[u8], table: &mut [u32]) -> (usize, usize) {

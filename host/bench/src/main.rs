@@ -17,12 +17,12 @@ mod workloads;
 
 use std::path::PathBuf;
 
-const USAGE: &str = "usage: radar-bench agree | times [DOCUMENT] | counts [DOCUMENT PLOT] | one PEER WORKLOAD
+const USAGE: &str = "usage: radar-bench agree | times [DOCUMENT] | counts [DOCUMENT PLOT] | one PEER WORKLOAD [BYTES]
        radar-bench line WAY LINE CALL
   agree   all readers on all workloads, 64 KiB to 1 MiB: the same rows and skipped bytes; all ways to read a line
   times   the ratios of the times on 1 MiB
   counts  the instructions by callgrind, from 64 KiB to 1 MiB, and their plot
-  one     one run on 1 MiB, to be looked at under callgrind with --toggle-collect=measured
+  one     one run on 1 MiB or so many bytes, to be looked at under callgrind with --toggle-collect=measured
   line    one line of 1 MiB in calls of CALL bytes, with --toggle-collect=measured_line";
 
 /// By doubling, up to the most bytes that one call is lent.
@@ -38,7 +38,8 @@ fn main() {
         ["counts"] => counts::measure(None, None),
         ["counts", document, plot] => counts::measure(Some(&PathBuf::from(document)), Some(&PathBuf::from(plot))),
         ["counted"] => counts::run_counted(),
-        ["one", peer, workload] => counts::run_one(peer, workload),
+        ["one", peer, workload] => counts::run_one(peer, workload, SIZES[SIZES.len() - 1]),
+        ["one", peer, workload, size] => counts::run_one(peer, workload, size.parse().expect("a number of bytes")),
         ["line", way, line, call] => feeding::run_one(way, line, call),
         _ => {
             eprintln!("{USAGE}");

@@ -1,11 +1,11 @@
-//! The readers side by side, each behind the same two functions.
+//! The readers side by side, each behind the same three functions.
 
 #![allow(unsafe_code)]
 
 #[cfg(gateway_linked)]
-use radar_reference::abi::{Millimetres, Reading};
+use radar_reference::abi::{Centidegrees, Millimetres, Reading};
 use radar_reference::judgement::SIRAD;
-use radar_reference::numbers::millimetres;
+use radar_reference::numbers::{millimetres, phase_hundredths};
 use radar_reference::packet_rules::MAGIC;
 use radar_reference::reading::{self, ROW};
 use radar_reference::sirad::START_MARKER;
@@ -51,9 +51,16 @@ struct CMillimetres {
     value: i32,
 }
 
+#[repr(C)]
+struct CCentidegrees {
+    refusal: u32,
+    value: i32,
+}
+
 extern "C" {
     fn c_closed_reading(dialect: u32, bytes: *const u8, count: usize, table: *mut u32, numbers: usize) -> CReading;
     fn c_millimetres(edition: u32, bits: u32) -> CMillimetres;
+    fn c_centidegrees(character: u8) -> CCentidegrees;
     fn count_by_memchr(byte: u8, bytes: *const u8, count: usize) -> usize;
 }
 
@@ -61,6 +68,7 @@ extern "C" {
 extern "C" {
     fn vq_closed_reading(dialect: u32, bytes: *const u8, count: usize, table: *mut u32, numbers: usize) -> Reading;
     fn vq_millimetres(edition: u32, bits: u32) -> Millimetres;
+    fn vq_centidegrees(character: u8) -> Centidegrees;
 }
 
 impl Peer {
@@ -104,11 +112,13 @@ impl Peer {
     }
 
     /// Does the workload's task on its bytes. This is what is measured. The answers go to `table`: rows of three
-    /// numbers, or a refusal and a value for each float. Gives the rows (or floats) and the skipped bytes.
+    /// numbers, or a refusal and a value for each float or character. Gives the rows (floats, characters) and the
+    /// skipped bytes.
     pub fn run(self, task: Task, bytes: &[u8], table: &mut [u32]) -> (usize, usize) {
         match task {
             Task::Read(dialect) => self.read(dialect, bytes, table),
             Task::Convert(edition) => self.convert(edition, bytes, table),
+            Task::Phases => self.phases(bytes, table),
         }
     }
 
@@ -160,6 +170,26 @@ impl Peer {
             }),
         }
     }
+
+    fn phases(self, bytes: &[u8], table: &mut [u32]) -> (usize, usize) {
+        match self {
+            #[cfg(gateway_linked)]
+            Peer::Gateway => each_character(bytes, table, |character| {
+                // SAFETY: a number only.
+                let answer = unsafe { vq_centidegrees(character) };
+                [answer.refusal, answer.value as u32]
+            }),
+            Peer::C => each_character(bytes, table, |character| {
+                // SAFETY: a number only.
+                let answer = unsafe { c_centidegrees(character) };
+                [answer.refusal, answer.value as u32]
+            }),
+            _ => each_character(bytes, table, |character| match phase_hundredths(character) {
+                Ok(value) => [0, value as u32],
+                Err(refusal) => [refusal, 0],
+            }),
+        }
+    }
 }
 
 fn each_float(bytes: &[u8], table: &mut [u32], convert: impl Fn(u32) -> [u32; 2]) -> (usize, usize) {
@@ -170,9 +200,17 @@ fn each_float(bytes: &[u8], table: &mut [u32], convert: impl Fn(u32) -> [u32; 2]
     (bytes.len() / 4, 0)
 }
 
-/// Numbers enough for every answer on so many bytes.
+fn each_character(bytes: &[u8], table: &mut [u32], phase: impl Fn(u8) -> [u32; 2]) -> (usize, usize) {
+    for (&character, answer) in bytes.iter().zip(table.chunks_exact_mut(2)) {
+        answer.copy_from_slice(&phase(character));
+    }
+    (bytes.len(), 0)
+}
+
+/// Numbers enough for every answer on so many bytes: two for each byte as a character. The rows of frames, of eight bytes or
+/// more each, and floats need fewer.
 pub fn table_for(bytes: &[u8]) -> Vec<u32> {
-    vec![0; ROW * (bytes.len() / 8 + 1) + bytes.len() / 2]
+    vec![0; 2 * bytes.len() + ROW]
 }
 
 /// Runs all peers once and demands that those which read found the same.
@@ -181,7 +219,7 @@ pub fn demand_agreement(workload: &Workload, bytes: &[u8]) {
     for &peer in Peer::ALL.iter().filter(|peer| peer.reads() && peer.can(workload.task)) {
         let mut table = table_for(bytes);
         let (rows, skipped) = peer.run(workload.task, bytes, &mut table);
-        let per_row = if matches!(workload.task, Task::Convert(_)) { 2 } else { ROW };
+        let per_row = if matches!(workload.task, Task::Read(_)) { ROW } else { 2 };
         let found = Found { rows, skipped, hash: hash(&table[..per_row * rows]) };
         let (other, expected) = *first.get_or_insert((peer, found));
         assert_eq!(found, expected, "{} against {} on {}", peer.name(), other.name(), workload.name);

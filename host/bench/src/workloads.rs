@@ -13,6 +13,8 @@ pub enum Task {
     Read(u32),
     /// Each four bytes are the bits of a float, to be given in millimetres by this edition.
     Convert(u32),
+    /// Each byte is a character, to be given in hundredths of a degree.
+    Phases,
 }
 
 /// A kind of buffer.
@@ -42,8 +44,12 @@ const fn convert(name: &'static str, edition: u32, make: fn(&mut Random, usize) 
     Workload { name, task: Task::Convert(edition), make }
 }
 
+const fn phases(name: &'static str, make: fn(&mut Random, usize) -> Vec<u8>) -> Workload {
+    Workload { name, task: Task::Phases, make }
+}
+
 /// All workloads, in the order of the tables.
-pub const WORKLOADS: [Workload; 28] = [
+pub const WORKLOADS: [Workload; 30] = [
     read("SiRad T, back to back", SIRAD, |random, size| repeat(size, || targets(random, DIGITS))),
     read("SiRad T, every digit 0", SIRAD, |random, size| repeat(size, || targets(random, b"0"))),
     read("SiRad T, two targets, rest \"0\"", SIRAD, |random, size| repeat(size, || two_targets(random, [b'0'; 14]))),
@@ -80,6 +86,12 @@ pub const WORKLOADS: [Workload; 28] = [
     convert("half millimetres, edition 2", 2, |random, size| {
         repeat(size, || float_half(random).to_le_bytes().to_vec())
     }),
+    phases("phases of a P frame", |random, size| {
+        let mut bytes = Vec::with_capacity(size);
+        characters_into(random, &mut bytes, size);
+        bytes
+    }),
+    phases("any bytes as phases", |random, size| (0..size).map(|_| random.byte()).collect()),
 ];
 
 const DIGITS: &[u8] = b"0123456789ABCDEF";
