@@ -1,7 +1,7 @@
 -- A character's phase by a multiplication and a shift, half a turn on: 110 steps are 18000 hundredths of a degree, and nothing is negative.
 use mathlib.Core.Bool.{true, false}
-use mathlib.Core.Path.{_≡_, refl, sym, _∙_, ap}
-use Prim.Native.Nat.{ℕ, suc, _+_, _-_, _*_, _/_, _^_, _<_, _≤_}
+use mathlib.Core.Path.{_≡_, refl, _∙_, ap}
+use Prim.Native.Nat.{ℕ, suc, _+_, _-_, _*_, _/_, _<_, _≤_}
 use native.Mathlib.Omega.{arith}
 use lib.Dec.{leb, ltb}
 use lib.IntN.{ℤ, pos, _-ℤ_}
@@ -21,7 +21,7 @@ bounds c is =
     (leb-true 34 c (p .0), leb-true c 254 (p .1))
 
 -- the phase half a turn on, by parts of which 2048 are a hundredth of a degree: a step, 1800 / 11 hundredths, is 335127 of them and 3 / 11
-abbrev turned : ℕ → ℕ
+abbrev pub turned : ℕ → ℕ
 turned c = (335127 * (c + 110 - 144) + 1024) / 2048
 
 -- from 144 on it is half a turn and the nearest whole number, below it half a turn less that; the 220 steps of a turn miss 60 parts, and no
@@ -36,7 +36,7 @@ unfolding nearest
 turned-down c least most = (omega arith, omega arith)
 
 -- without the half turn it is the phase
-turned-back : (c : ℕ) → isCharacter c ≡ true → pos (turned c) -ℤ pos 18000 ≡ centidegreesOf c
+pub turned-back : (c : ℕ) → isCharacter c ≡ true → pos (turned c) -ℤ pos 18000 ≡ centidegreesOf c
 turned-back c is =
     let b = bounds c is in
     test
