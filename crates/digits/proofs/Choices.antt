@@ -2,8 +2,11 @@
 use mathlib.Core.Path.{_≡_, refl}
 use mathlib.Core.Bool.{Bool, true, false, cond, _&&_, _||_}
 use mathlib.Core.Logic.{_⊎_, inl, inr}
-use Prim.Native.Nat.{ℕ}
+use Prim.Native.Nat.{ℕ, _≤_}
 use native.Mathlib.Omega.{arith}
+use lib.Dec.{leb}
+use borrow.Author.Tests.{leb-true}
+use Rattle.digits.specs.Bytes.{within}
 
 -- -- Case distinctions
 
@@ -36,6 +39,12 @@ and-right false b h = both-ways false h refl
 -- both of them
 pub and-parts : (a b : Bool) → (a && b) ≡ true → (a ≡ true) × (b ≡ true)
 and-parts a b h = (and-left a b h, and-right a b h)
+
+-- the bounds of a range that a number lies in
+pub within-bounds : (low high n : ℕ) → within low high n ≡ true → (low ≤ n) × (n ≤ high)
+within-bounds low high n h =
+    let p = and-parts (leb low n) (leb n high) h in
+    (leb-true low n (p .0), leb-true n high (p .1))
 
 -- a conjunction of two tests that hold
 pub and-both : (a b : Bool) → a ≡ true → b ≡ true → (a && b) ≡ true

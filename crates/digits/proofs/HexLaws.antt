@@ -8,19 +8,13 @@ use native.Mathlib.Nat.{pow-succ', pow-le-pow-right, lt-of-lt-of-le, mul-le-mul-
 use native.Mathlib.Numerals.{add-one}
 use native.Mathlib.Decide.{decLe}
 use native.Mathlib.Omega.{arith}
-use borrow.Author.Tests.{le-leb, lt-leb, leb-true}
-use lib.Dec.{leb}
+use borrow.Author.Tests.{le-leb, lt-leb}
 use lib.ListN.{length, take, drop, length-take, length-append}
 use lib.Seq.{append-snoc}
 use Rattle.digits.specs.Bytes.{isHex, within}
 use Rattle.digits.specs.Hex.{digit, glyph, hexFrom, hexValue, hexDigits, hexAt, AllHex}
-use Rattle.digits.proofs.Choices.{and-left}
 
 -- -- A digit by the tests of the code
-
--- the lower bound of a range that holds
-pub within-low : (low high b : ℕ) → within low high b ≡ true → low ≤ b
-within-low low high b h = leb-true low b (and-left (leb low b) (leb b high) h)
 
 -- a figure or a letter
 pub hex-of : (b : ℕ) (figure letter : Bool) → figure ≡ within 48 57 b → letter ≡ within 65 70 b → (figure || letter) ≡ isHex b

@@ -6,8 +6,8 @@ use Prim.Native.Nat.{ℕ, _-_, _%_, _≤_}
 use native.Mathlib.Nat.{mod-one}
 use native.Mathlib.Omega.{arith}
 use lib.Dec.{eqb, leb}
-use borrow.Author.Tests.{eqb-true, leb-true}
-use Rattle.digits.proofs.Choices.{and-parts}
+use borrow.Author.Tests.{eqb-true}
+use Rattle.digits.proofs.Choices.{within-bounds}
 use Rattle.mmwave.specs.Profile.{Sound}
 use Rattle.mmwave.specs.MmWave.{mmWave, totalLegal, payloadRule}
 
@@ -17,7 +17,7 @@ unfolding totalLegal
 total-bounds l h = go (eqb (l % 32) 0) refl h
   where
     go : (b : Bool) → eqb (l % 32) 0 ≡ b → cond b (leb 64 l && leb l 32768) false ≡ true → (l % 32 ≡ 0) × (64 ≤ l) × (l ≤ 32768)
-    go true a j = let g = and-parts (leb 64 l) (leb l 32768) j in (eqb-true (l % 32) 0 a, leb-true 64 l (g .0), leb-true l 32768 (g .1))
+    go true a j = let b = within-bounds 64 32768 l j in (eqb-true (l % 32) 0 a, b .0, b .1)
     go false a j = let z : _≡_ {A = ℕ} 0 1 = cc in absurd (omega arith)
 
 -- the mmWave profile is sound

@@ -6,8 +6,8 @@ use Prim.Native.Nat.{ℕ, _+_, _%_, _≤_}
 use native.Mathlib.Omega.{arith}
 use native.Mathlib.Decide.{decLe}
 use lib.Dec.{eqb, leb}
-use borrow.Author.Tests.{eq-eqb, eqb-true, eqb-false, leb-true}
-use Rattle.digits.proofs.Choices.{and-parts}
+use borrow.Author.Tests.{eq-eqb, eqb-true, eqb-false}
+use Rattle.digits.proofs.Choices.{within-bounds}
 use Rattle.mmwave.specs.declared.Rule.the-variants.{Never, Exact, Multiple}
 use Rattle.mmwave.specs.declared.Unit.the-variants.{Four, Sixteen}
 use Rattle.mmwave.specs.Profile.{legal, Sound}
@@ -25,8 +25,7 @@ vital-bounds l h = go (eqb (l % 4) 0) refl (eqb l 44) refl h
   where
     go : (b : Bool) → eqb (l % 4) 0 ≡ b → (c : Bool) → eqb l 44 ≡ c → cond b (cond c false (leb 40 l && leb l 32768)) false ≡ true
         → VitalBounds l
-    go true a false d j = let g = and-parts (leb 40 l) (leb l 32768) j in
-        (eqb-true (l % 4) 0 a, eqb-false l 44 d, leb-true 40 l (g .0), leb-true l 32768 (g .1))
+    go true a false d j = let b = within-bounds 40 32768 l j in (eqb-true (l % 4) 0 a, eqb-false l 44 d, b .0, b .1)
     go true a true d j = let z : _≡_ {A = ℕ} 0 1 = cc in absurd (omega arith)
     go false a c d j = let z : _≡_ {A = ℕ} 0 1 = cc in absurd (omega arith)
 

@@ -6,11 +6,11 @@ use mathlib.Core.List.{List, [], _∷_, append-nil}
 use Prim.Native.Nat.{ℕ, _<_, _≤_}
 use native.Mathlib.Omega.{arith}
 use native.Mathlib.Decide.{decLe}
-use borrow.Author.Tests.{eqb-true, eq-eqb, le-leb, lt-leb, leb-true}
-use lib.Dec.{leb, eqb}
+use borrow.Author.Tests.{eqb-true, eq-eqb, le-leb, lt-leb}
+use lib.Dec.{eqb}
 use lib.ListN.{length, take, drop, getD}
 use Rattle.digits.specs.Hex.{hexValue, hexAt}
-use Rattle.digits.proofs.Choices.{and-left, and-right}
+use Rattle.digits.proofs.Choices.{within-bounds}
 use Rattle.digits.proofs.Lists.{drop-one}
 use Rattle.form.specs.declared.Judgement.{Judgement}
 use Rattle.form.specs.declared.Judgement.the-variants.{Whole, Bad, Waiting}
@@ -27,7 +27,7 @@ use Rattle.sirad_fields.proofs.ValueLaws.{back, passes, again, fits-aga
 
 -- the kinds 1 to 3
 pub data-range : (k : ℕ) → isData k ≡ true → (1 ≤ k) × (k ≤ 3)
-data-range k h = (leb-true 1 k (and-left (leb 1 k) (leb k 3) h), leb-true k 3 (and-right (leb 1 k) (leb k 3) h))
+data-range k h = within-bounds 1 3 k h
 
 -- -- The kind that a reader goes by
 

@@ -3,22 +3,16 @@ use mathlib.Core.Bool.{true, false}
 use mathlib.Core.Path.{_≡_, refl, _∙_, ap}
 use Prim.Native.Nat.{ℕ, suc, _+_, _-_, _*_, _/_, _<_, _≤_}
 use native.Mathlib.Omega.{arith}
-use lib.Dec.{leb, ltb}
+use lib.Dec.{ltb}
 use lib.IntN.{ℤ, pos, _-ℤ_}
-use borrow.Author.Tests.{leb-true, ltb-true, ltb-false, lt-ltb, le-ltb}
+use borrow.Author.Tests.{ltb-true, ltb-false, lt-ltb, le-ltb}
 use mir.Syntax.{w32}
 use mir.Val.{SFits, toZ, ofZ}
 use mir.Facts.{toZ-pos, toZ-ofZ}
 use Rattle.digits.specs.Bytes.{isCharacter}
-use Rattle.digits.proofs.Choices.{test, and-parts}
+use Rattle.digits.proofs.Choices.{test, within-bounds}
 use Rattle.units.specs.Rounding.{distance, toAway, nearest}
 use Rattle.units.specs.Units.{value, refused, centidegreesOf, centidegrees}
-
--- a character is 34 to 254
-pub bounds : (c : ℕ) → isCharacter c ≡ true → (34 ≤ c) × (c ≤ 254)
-bounds c is =
-    let p = and-parts (leb 34 c) (leb c 254) is in
-    (leb-true 34 c (p .0), leb-true c 254 (p .1))
 
 -- the phase half a turn on, by parts of which 2048 are a hundredth of a degree: a step, 1800 / 11 hundredths, is 335127 of them and 3 / 11
 abbrev pub turned : ℕ → ℕ
@@ -38,7 +32,7 @@ turned-down c least most = (omega arith, omega arith)
 -- without the half turn it is the phase
 pub turned-back : (c : ℕ) → isCharacter c ≡ true → pos (turned c) -ℤ pos 18000 ≡ centidegreesOf c
 turned-back c is =
-    let b = bounds c is in
+    let b = within-bounds 34 254 c is in
     test
     (ltb c 144)
     (λ t.
@@ -65,7 +59,7 @@ half-turn-fits {q} fits =
 pub centidegrees-value : (c : ℕ) → isCharacter c ≡ true → value (toZ w32 (ofZ w32 (toZ w32 (turned c) -ℤ pos 18000))) ≡ centidegrees c
 unfolding centidegrees
 centidegrees-value c is =
-    let fits : SFits w32 (pos (turned c)) = record { sfits = omega (arith, bounds c is) } in
+    let fits : SFits w32 (pos (turned c)) = record { sfits = omega (arith, within-bounds 34 254 c is) } in
     let back = toZ-ofZ {w = w32} {z = toZ w32 (turned c) -ℤ pos 18000} (half-turn-fits {q = turned c} fits) in
     let exact = ap (λ (z : ℤ). z -ℤ pos 18000) (toZ-pos w32 {n = turned c} (fits .sfits)) in
     rw is (ap value (back ∙ exact ∙ turned-back c is))

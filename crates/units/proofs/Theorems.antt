@@ -4,12 +4,12 @@ use mathlib.Core.Path.{_≡_, refl, sym, _∙_, ap}
 use mathlib.Core.Logic.{_↔_, _⊎_, inl, inr}
 use Prim.Native.Nat.{ℕ, suc, _*_, _^_, _<_, _≤_}
 use native.Mathlib.Omega.{arith}
-use borrow.Author.Tests.{leb-true, ltb-true, ltb-false, lt-ltb, le-ltb, eqb-true, eqb-false, eq-eqb, ne-eqb}
-use lib.Dec.{eqb, leb, ltb, lit<, le→leb}
+use borrow.Author.Tests.{ltb-true, ltb-false, lt-ltb, le-ltb, eqb-true, eqb-false, eq-eqb, ne-eqb}
+use lib.Dec.{eqb, ltb, lit<, le→leb}
 use lib.IntN.{ℤ, pos}
 use lib.Signed.{_≤ℤ_}
 use Rattle.digits.specs.Bytes.{isCharacter}
-use Rattle.digits.proofs.Choices.{test, either, both-ways, and-parts}
+use Rattle.digits.proofs.Choices.{test, either, both-ways, within-bounds}
 use Rattle.units.specs.Rounding.{distance, signed, Nearest, Half, toAway, toEven, Rounds, nearest}
 use Rattle.units.specs.declared.Quantity.{Quantity}
 use Rattle.units.specs.Float.{negative, exponent, notFinite, magnitude}
@@ -49,13 +49,11 @@ edition-exactly edition = (to, from)
   where
     to : isEdition edition ≡ true → Edition edition
     to t =
-        let p = and-parts (leb 1 edition) (leb edition 2) t in
-        let least = leb-true 1 edition (p .0) in
-        let most = leb-true edition 2 (p .1) in
+        let b = within-bounds 1 2 edition t in
         test
         (eqb edition 1)
         (λ u. inl (eqb-true edition 1 u))
-        (λ u. inr (omega (arith, least, most, eqb-false edition 1 u)))
+        (λ u. inr (omega (arith, b, eqb-false edition 1 u)))
 
     from : Edition edition → isEdition edition ≡ true
     from (inl e) = rw e refl

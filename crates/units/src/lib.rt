@@ -27,8 +27,8 @@ const HALF_TURN_STEPS: u32 = 110;
 
 const HALF_TURN: i32 = 18000;
 
-// A hundredth of a degree is 2 ^ PHASE_BITS parts and half of one is HALF_PHASE; a step is PHASE_STEP parts and 3 / 11. The 220 steps of a
-// whole turn miss 60 parts by it, and no phase is within 93 parts of a half.
+// In fixed point a hundredth of a degree is 2 ^ PHASE_BITS parts and half of one is HALF_PHASE; a step is PHASE_STEP parts and 3 / 11. The
+// 220 steps of a whole turn miss 60 parts by it, and no phase is within 93 parts of a half.
 const PHASE_STEP: u32 = 335127;
 
 const HALF_PHASE: u32 = 1024;

@@ -1,7 +1,8 @@
 -- Each return is one law: a figure, a letter, no digit.
 use mathlib.Core.Path.{sym, _∙_}
 use native.Mathlib.Omega.{arith}
-use Rattle.digits.proofs.HexLaws.{within-low, digit-figure, digit-letter, digit-none}
+use Rattle.digits.proofs.Choices.{within-bounds}
+use Rattle.digits.proofs.HexLaws.{digit-figure, digit-letter, digit-none}
 use borrow.Author.Needs.{needs}
 use Rattle.digits.proofs.digit_of.Statement.{statement}
 use Rattle.digits.proofs.digit_of.Tie as tie
@@ -10,7 +11,7 @@ between-requires : tie.Need-between-requires
 between-requires c κs = search needs
 
 sub-result : tie.Need-sub-result
-sub-result c = within-low _ _ _ (sym (c .before .between .ensures) ∙ c .if1 .taken)
+sub-result c = within-bounds _ _ _ (sym (c .before .between .ensures) ∙ c .if1 .taken) .0
 
 returns : tie.Need-returns
 returns c = digit-figure (c .before .before .args .b) (sym (c .before .between .ensures) ∙ c .if1 .taken)
@@ -22,7 +23,7 @@ sub-result-2 : tie.Need-sub-result-2
 sub-result-2 c =
     let letter = c .before in
     let figure = letter .before .before in
-    omega (arith, within-low 65 70 (figure .before .args .b) (sym (letter .between2 .ensures) ∙ c .if2 .taken))
+    omega (arith, within-bounds 65 70 (figure .before .args .b) (sym (letter .between2 .ensures) ∙ c .if2 .taken))
 
 returns-2 : tie.Need-returns-2
 returns-2 c =

@@ -4,7 +4,8 @@ use mathlib.Core.Path.{_≡_, sym, _∙_}
 use native.Mathlib.Omega.{arith}
 use borrow.Author.Needs.{needs}
 use Rattle.digits.specs.Bytes.{isCharacter}
-use Rattle.units.proofs.Phase.{bounds, half-turn-fits, centidegrees-value, centidegrees-refused}
+use Rattle.digits.proofs.Choices.{within-bounds}
+use Rattle.units.proofs.Phase.{half-turn-fits, centidegrees-value, centidegrees-refused}
 use Rattle.units.proofs.centidegrees_of.Statement.{statement}
 use Rattle.units.proofs.centidegrees_of.Tie as tie
 
@@ -18,7 +19,7 @@ add-steps : tie.Need-add-steps
 add-steps c = search needs
 
 sub-steps : tie.Need-sub-steps
-sub-steps c = let b = bounds (c .before .before .args .character) (is c) in omega arith
+sub-steps c = let b = within-bounds 34 254 (c .before .before .args .character) (is c) in omega arith
 
 mul-turned : tie.Need-mul-turned
 mul-turned c = search needs
