@@ -6,7 +6,7 @@ use native.Mathlib.Nat.{add-zero}
 use native.Mathlib.Numerals.{add-one}
 use native.Mathlib.Omega.{arith}
 use lib.ListN.{length, take, drop, getD, length-drop}
-use lib.Seq.{drop-cons, getD-drop, take-all}
+use lib.Seq.{drop-cons, drop-at, getD-drop, length-take-le, take-add, take-all}
 use Rattle.digits.specs.Bytes.{Below}
 
 -- -- The bytes from an offset on
@@ -22,6 +22,10 @@ drop-first s at = getD-drop at s 0 0 ∙ ap (λ (x : ℕ). getD s x 0) (add-zero
 -- the part of a slice from an offset on
 pub part-drop : (s : List ℕ) (at : ℕ) → take (length s - at) (drop at s) ≡ drop at s
 part-drop s at = let h = length-drop at s in take-all (length s - at) (drop at s) (omega arith)
+
+-- what lies behind the first n of n + m bytes
+pub drop-take : (s : List ℕ) (n m : ℕ) → n + m ≤ length s → drop n (take (n + m) s) ≡ take m (drop n s)
+drop-take s n m h = ap (drop n) (take-add n m s) ∙ drop-at (take n s) (take m (drop n s)) n (length-take-le n s (omega arith))
 
 -- the first four bytes from offset at on, then the rest
 pub drop-four : (s : List ℕ) (at : ℕ) → at + 4 ≤ length s
