@@ -11,7 +11,7 @@ use mmwave_dialects::padding_of;
 
 const MOST_TOTAL: u32 = 32768;
 
-const MOST_RECORDS: u32 = 32;
+pub const MOST_RECORDS: u32 = 32;
 
 // A multiple of 32 from 64 on.
 fn mmwave_total(l: u32) -> bool

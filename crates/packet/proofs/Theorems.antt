@@ -11,7 +11,7 @@ use Rattle.digits.proofs.Choices.{test, both-ways}
 use Rattle.packet.specs.declared.Found.the-variants.{At, Missing}
 use Rattle.packet.specs.declared.PacketStep.{PacketStep}
 use Rattle.packet.specs.Steps.{stepOver, cursorAfter, StepsAreRecords}
-use Rattle.packet.specs.Walk.{recordsOf, typeAt, endAt, recordAt, startsAmong, ofType, firstOfType, IsFirst}
+use Rattle.packet.specs.Walk.{recordsOf, typeAt, endAt, recordAt, startsAmong, firstOfType, IsFirst}
 use Rattle.packet.specs.Fields.{isPacket, recordRead, recordOf, noStep, stepShown, stepRead, stepOf}
 
 -- -- The first record of a type
@@ -19,7 +19,7 @@ use Rattle.packet.specs.Fields.{isPacket, recordRead, recordOf, noStep, 
 -- what is found is the first record of the type
 pub found-first : (type : ℕ) (bs : List ℕ) (k p q : ℕ) → firstOfType type bs k p ≡ At q
     → (j : ℕ) × IsFirst type bs k p j × (q ≡ recordAt bs j p)
-unfolding firstOfType ofType recordAt
+unfolding firstOfType recordAt
 found-first type bs zero p q h = let z : _≡_ {A = ℕ} 0 1 = cc in absurd (omega arith)
 found-first type bs (suc k) p q h =
     test (eqb (typeAt bs p) type) (λ y. here y (rw y at h)) (λ n. later n (found-first type bs k (endAt bs p) q (rw n at h)))
@@ -38,7 +38,7 @@ found-first type bs (suc k) p q h =
 -- where none is found, no record has the type
 pub missing-none : (type : ℕ) (bs : List ℕ) (k p : ℕ) → firstOfType type bs k p ≡ Missing
     → (j : ℕ) → j < k → typeAt bs (recordAt bs j p) ≡ type → ⊥
-unfolding firstOfType ofType recordAt
+unfolding firstOfType recordAt
 missing-none type bs zero p h j l x = omega arith
 missing-none type bs (suc k) p h zero l x =
     let e : At p ≡ Missing = rw (eq-eqb (typeAt bs p) type x) at h in
