@@ -31,7 +31,7 @@ module _ (bits : ℕ) where
   normal h = simp (ne-eqb (exponent bits) 0 (omega arith))
 
   -- up to the exponent t the magnitude is at most 2 ^ 24 at that scale
-  magnitude-most : (t : ℕ) → 0 < t → exponent bits ≤ t → magnitude bits ≤ 2 ^ 24 * 2 ^ t
+  pub magnitude-most : (t : ℕ) → 0 < t → exponent bits ≤ t → magnitude bits ≤ 2 ^ 24 * 2 ^ t
   magnitude-most t h low = mul-le-mul (le-of-lt significand-small) (pow-mono {i = scale bits} {j = t} (scale-most t h low))
 
   -- -- 1000 m

@@ -1,5 +1,6 @@
 pub mod Rounding
 pub mod Theorems
 pub mod Bits
+pub mod Rising
 pub mod Phase
 pub mod Machine

@@ -78,7 +78,7 @@ half-most toAway q = omega arith
 half-most toEven q = omega arith
 
 -- the closed form without a division
-bounds : (ties : Ties) (n d : ℕ) → 0 < d
+pub bounds : (ties : Ties) (n d : ℕ) → 0 < d
     → (2 * (d * nearest ties n d) ≤ 2 * n + (d - 1) + halfUp ties (n / d))
     × (2 * n + (d - 1) + halfUp ties (n / d) < 2 * (d * nearest ties n d) + 2 * d)
 unfolding nearest
@@ -145,7 +145,7 @@ most n d m h low =
     let e : m * (2 * d) ≡ 2 * (d * m) = mul-left-comm m 2 d ∙ ap (λ (x : ℕ). 2 * x) (mul-comm m d) in
     le-div-iff-mul-le {k = 2 * d} {x = m} {y = 2 * n + (d - 1) + 1} (omega arith) .1 (omega arith)
 
-next : (d m k : ℕ) → m < k → d * m + d ≤ d * k
+pub next : (d m k : ℕ) → m < k → d * m + d ≤ d * k
 next d m k h = rw (← mul-suc d m) (mul-le-mul-left d h)
 
 odd : (d m : ℕ) → d * (2 * m + 1) ≡ 2 * (d * m) + d

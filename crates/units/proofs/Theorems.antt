@@ -208,7 +208,8 @@ module _ (edition bits : ℕ) where
     ),
   )
 
-  given : millimetres edition bits .refusal ≡ 0 → millimetres edition bits .value ≡ z
+  -- an answer that is no refusal is the closed form
+  pub given : millimetres edition bits .refusal ≡ 0 → millimetres edition bits .value ≡ z
   unfolding millimetres coordinate
   given h =
       let t = value-told (isEdition edition) infinite far z h in

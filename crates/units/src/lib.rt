@@ -47,12 +47,12 @@ const ACCURACY_PARTS: u32 = 10;
 const LEADING_ONE: u32 = 8388608;
 
 // The bit of a float's sign; the bits below it are the magnitude's.
-const SIGN: u32 = 0x80000000;
+pub const SIGN: u32 = 0x80000000;
 
 // Without the sign the bits rise with the magnitude: those of 2 ^ -12 m (below it the nearest millimetre is 0), of 1000 m, of infinity.
 const LEAST_BITS: u32 = 0x39800000;
 
-const LIMIT_BITS: u32 = 0x447A0000;
+pub const LIMIT_BITS: u32 = 0x447A0000;
 
 const INFINITE_BITS: u32 = 0x7F800000;
 
