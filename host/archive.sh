@@ -3,7 +3,7 @@
 # The faces are compiled apart, each with all that it calls, and stay apart inside: one object each.
 set -eu
 cd "$(dirname "$0")/.."
-faces="gateway readings feeder fields_sirad fields_sirad_write fields_packet fields_command"
+faces="gateway readings feeder fields_sirad fields_sirad_write fields_packet fields_command door"
 built=target/staticlib
 mkdir -p $built
 

@@ -40,6 +40,9 @@ extern "C" {
 /* Numbers in a table's row: the frame's place, its length, its kind. */
 #define VQ_ROW 3u
 
+/* The greatest distance that vq_anyone_close is asked for, in millimetres. */
+#define VQ_MAX_DISTANCE 1000000u
+
 /* Editions of the millimetre rule; they differ only at exact halves. */
 #define VQ_EDITION_1 1u /* halves away from zero */
 #define VQ_EDITION_2 2u /* halves to the even neighbour */
@@ -81,7 +84,7 @@ extern "C" {
 #define VQ_AT_END 2u          /* closed reading only: everything is read */
 
 /* Refusals. */
-#define VQ_REFUSED_DIALECT 1u    /* a dialect other than 0, 1 and 2 */
+#define VQ_REFUSED_DIALECT 1u    /* a dialect other than 0, 1 and 2; vq_anyone_close: other than 1 */
 #define VQ_REFUSED_PLACE 2u      /* an offset beyond the count; equal is fine */
 #define VQ_REFUSED_SIZE 3u       /* more than VQ_MAX_BYTES bytes, or a stream of more */
 #define VQ_REFUSED_FRAME 5u      /* the bytes are not exactly one whole frame of the wanted kind */
@@ -90,6 +93,7 @@ extern "C" {
 #define VQ_REFUSED_NOT_FINITE 30u /* the float is infinite or no number */
 #define VQ_REFUSED_TOO_FAR 31u   /* the float's magnitude is over 1000 m */
 #define VQ_REFUSED_EDITION 32u   /* an edition other than 1 and 2 */
+#define VQ_REFUSED_DISTANCE 33u  /* a distance over VQ_MAX_DISTANCE */
 #define VQ_REFUSED_NO_HEADER 40u /* a command of under 4 bytes */
 #define VQ_REFUSED_REST_BIT 41u  /* a rest bit of the header word is set */
 #define VQ_REFUSED_NO_LENGTH 42u /* a command length of 0 */
@@ -375,6 +379,26 @@ struct vq_point {
 };
 
 struct vq_point vq_point(uint32_t edition, const uint8_t *packet, size_t count, size_t index);
+
+/*
+ * Is anyone close? Whether some point of a capture of mmWave packets (dialect 1, and no other) has X, Y and Z each at most
+ * `distance` millimetres in magnitude, and which is the first. It looks at every point, as vq_point gives them by the
+ * edition, of every packet of vq_closed_reading with room for all, and stops at the first that is close; a point that
+ * vq_point refuses with 30 or 31 is not close. It needs no table.
+ *   refusal  0, or 1, 3, 32, 33: the first of them in this order that applies
+ *   close    1 for yes, 0 for no
+ *   place    of the first packet with a close point; 0 with a no
+ *   index    of the first close point of that packet, as vq_point counts them; 0 with a no
+ */
+struct vq_closeness {
+    uint32_t refusal;
+    uint32_t close;
+    uint64_t place;
+    uint64_t index;
+};
+
+struct vq_closeness vq_anyone_close(uint32_t dialect, uint32_t edition, uint32_t distance, const uint8_t *bytes,
+                                    size_t count);
 
 /*
  * A DemoRad command: the bytes are exactly one command. Words behind the count are 0 in reading; writing ignores them,

@@ -1,15 +1,16 @@
 -- Little-endian numbers of any width: both directions, lengths and bounds. Each law is one induction on the bytes or the width, a
 -- Horner step a turn.
-use mathlib.Core.Path.{_≡_, refl, ap, _∙_}
+use mathlib.Core.Path.{_≡_, refl, sym, ap, _∙_}
 use mathlib.Core.List.{List, [], _∷_}
-use Prim.Native.Nat.{ℕ, zero, suc, _+_, _*_, _/_, _%_, _^_, _<_, _≤_}
+use Prim.Native.Nat.{ℕ, zero, suc, _+_, _-_, _*_, _/_, _%_, _^_, _<_, _≤_}
 use native.Mathlib.Nat.{pow-succ', pow-le-pow-right, lt-of-lt-of-le}
 use native.Mathlib.Omega.{arith}
 use borrow.Author.Tests.{le-leb, lt-leb}
-use lib.ListN.{length, take, drop, getD, length-take}
+use lib.ListN.{length, take, drop, getD, length-take, length-drop}
+use lib.Seq.{take-take, drop-drop, length-take-le}
 use Rattle.digits.specs.Bytes.{Below, Bytes}
 use Rattle.digits.specs.LittleEndian.{fromLittle, toLittle, littleAt, wordAt}
-use Rattle.digits.proofs.Lists.{below-take, below-drop, take-four}
+use Rattle.digits.proofs.Lists.{drop-take, below-take, below-drop, take-four}
 
 -- -- Widths and bounds
 
@@ -67,3 +68,16 @@ word-joined bs at h = word-there bs at h ∙ ap fromLittle (take-four bs at h)
 pub word-missing : (bs : List ℕ) (at : ℕ) → length bs < at + 4 → wordAt bs at ≡ 0
 unfolding wordAt
 word-missing bs at h = rw (lt-leb (at + 4) (length bs) h)
+
+-- the number at an offset of a part of the bytes
+pub word-part : (bs : List ℕ) (from n at : ℕ) → from + n ≤ length bs → at + 4 ≤ n
+    → wordAt (take n (drop from bs)) at ≡ wordAt bs (from + at)
+word-part bs from n at h l =
+    let d : length (drop from bs) ≡ length bs - from = length-drop from bs in
+    let m : length (take n (drop from bs)) ≡ n = length-take-le n (drop from bs) (omega arith) in
+    let e : at + (n - at) ≡ n = omega arith in
+    let part : drop at (take n (drop from bs)) ≡ take (n - at) (drop (from + at) bs) = rw e at
+    (drop-take (drop from bs) at (n - at) (omega arith) ∙ ap (take (n - at)) (drop-drop at from bs)) in
+    word-there (take n (drop from bs)) at (omega arith)
+    ∙ ap (λ (l : List ℕ). fromLittle (take 4 l)) part ∙ ap fromLittle (take-take 4 (n - at) (drop (from + at) bs) (omega arith))
+    ∙ sym (word-there bs (from + at) (omega arith))

@@ -1,0 +1,3 @@
+pub mod Proximity
+pub mod Sentences
+pub mod Internal
