@@ -2,6 +2,7 @@
 
 pub mod feeding;
 pub mod fields;
+pub mod proximity;
 
 use crate::judgement::{self, judge};
 use crate::numbers::{millimetres, phase_hundredths};

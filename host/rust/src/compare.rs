@@ -1,10 +1,11 @@
 //! A subject against the reader: judgements, readings, millimetres, phases, and demand 3 on the subject's own answers; fields
-//! and commands in [`fields`], the feeder in [`feeding`].
+//! and commands in [`fields`], the feeder in [`feeding`], whether anyone is close in [`proximity`].
 //!
 //! Every run is fixed by its first seed. The first difference ends it and tells the seed and the bytes.
 
 pub mod feeding;
 pub mod fields;
+pub mod proximity;
 
 use std::collections::BTreeMap;
 use std::fmt;
@@ -110,6 +111,11 @@ impl fmt::Display for Tally {
         }
         Ok(())
     }
+}
+
+/// The first seed of a run: 1, or what the environment variable `VQ_SEED` says.
+pub fn first_seed() -> u64 {
+    std::env::var("VQ_SEED").map_or(1, |seed| seed.parse().expect("VQ_SEED is a number"))
 }
 
 /// A capture and how it was made.

@@ -7,6 +7,7 @@ use crate::abi::feeding::{Fed, FeedSubject, Stream};
 use crate::abi::fields::{
     Command, DataFrame, ErrorFrame, FieldSubject, Header, Point, Record, StatusFrame, Step, TargetFrame, Written,
 };
+use crate::abi::proximity::{Closeness, ProximitySubject};
 use crate::abi::{Centidegrees, Judgement, Millimetres, Reading, Subject};
 
 extern "C" {
@@ -58,6 +59,10 @@ extern "C" {
         time_difference: u16,
     ) -> Written;
     fn vq_write_error(output: *mut u8, room: usize, flags: u16) -> Written;
+}
+
+extern "C" {
+    fn vq_anyone_close(dialect: u32, edition: u32, distance: u32, bytes: *const u8, count: usize) -> Closeness;
 }
 
 /// The linked libraries.
@@ -161,5 +166,12 @@ impl FieldSubject for Gateway {
 
     fn write_error(&self, output: &mut [u8], flags: u16) -> Written {
         unsafe { vq_write_error(output.as_mut_ptr(), output.len(), flags) }
+    }
+}
+
+impl ProximitySubject for Gateway {
+    fn anyone_close(&self, dialect: u32, edition: u32, distance: u32, bytes: &[u8]) -> Closeness {
+        // SAFETY: the pointer and the length are those of a slice.
+        unsafe { vq_anyone_close(dialect, edition, distance, bytes.as_ptr(), bytes.len()) }
     }
 }

@@ -1,11 +1,11 @@
-//! The refusal numbers and the two size limits (paper 01, "Refusal numbers"; paper 02).
+//! The refusal numbers and the limits (paper 01, "Refusal numbers"; paper 02).
 //!
 //! "A refusal returns its number, every other number 0, and writes nothing."
 
 /// A number from the paper's list.
 pub type Refusal = u32;
 
-/// 1: a dialect other than 0, 1 and 2.
+/// 1: a dialect other than 0, 1 and 2; whether anyone is close: other than 1.
 pub const UNKNOWN_DIALECT: Refusal = 1;
 /// 2: a place beyond the length; equal is fine.
 pub const PLACE_BEYOND_LENGTH: Refusal = 2;
@@ -25,6 +25,8 @@ pub const NOT_FINITE: Refusal = 30;
 pub const TOO_FAR: Refusal = 31;
 /// 32: an edition other than 1 and 2.
 pub const UNKNOWN_EDITION: Refusal = 32;
+/// 33: a distance over [`MAX_DISTANCE`].
+pub const DISTANCE_TOO_GREAT: Refusal = 33;
 /// 40: a command of under 4 bytes.
 pub const NO_HEADER_WORD: Refusal = 40;
 /// 41: a rest bit of the header word is set.
@@ -60,3 +62,5 @@ pub const TOO_MANY_WAITING: Refusal = 62;
 pub const MAX_BYTES: usize = 1_048_576;
 /// The most bytes that a listing program reads.
 pub const MAX_LISTING_BYTES: usize = 65_536;
+/// The greatest distance, in millimetres, that is asked for.
+pub const MAX_DISTANCE: u32 = 1_000_000;

@@ -84,14 +84,32 @@ pub fn packet(random: &mut Random, room: usize) -> Option<Vec<u8>> {
 
 /// A packet with a record of type 1 that holds these coordinates in metres and Doppler values, and its side info.
 pub fn packet_of_points(random: &mut Random, points: &[[f32; 4]]) -> Vec<u8> {
-    let values: Vec<u8> = points.iter().flatten().flat_map(|value| value.to_bits().to_le_bytes()).collect();
     let side: Vec<u8> = (0..4 * points.len()).map(|_| random.byte()).collect();
-    let mut records = vec![(1, values.len() as u32, values), (7, side.len() as u32, side)];
+    let mut records = vec![(1, bytes_of_points(points)), (7, side)];
     if points.is_empty() {
         records.clear();
     }
-    records.push((6, 24, (0..24).map(|_| random.byte()).collect()));
-    Plan::around(points.len() as u32, records).bytes(random)
+    records.push((6, (0..24).map(|_| random.byte()).collect()));
+    packet_of(random, points.len(), records)
+}
+
+/// The payload of a record of type 1.
+pub fn bytes_of_points(points: &[[f32; 4]]) -> Vec<u8> {
+    points.iter().flatten().flat_map(|value| value.to_bits().to_le_bytes()).collect()
+}
+
+/// A packet with these types and payloads.
+pub fn packet_of(random: &mut Random, objects: usize, records: Vec<(u32, Vec<u8>)>) -> Vec<u8> {
+    let records = records.into_iter().map(|(record_type, payload)| (record_type, payload.len() as u32, payload));
+    Plan::around(objects as u32, records.collect()).bytes(random)
+}
+
+/// These bytes in a packet that is bad at its only record's length: 32 bytes more are said than it fills.
+pub fn broken_around(random: &mut Random, inside: Vec<u8>) -> Vec<u8> {
+    let length = inside.len() as u32;
+    let mut plan = Plan::around(0, vec![(10, length, inside)]);
+    plan.total += 32;
+    plan.bytes(random)
 }
 
 /// Gives the last record a free type and the length with which the records end on a multiple of 32, or one byte behind

@@ -4,6 +4,7 @@
 //! here from the papers' tables, apart from the reader and the field writers.
 
 pub mod demorad;
+pub mod doorway;
 pub mod floats;
 pub mod mmwave;
 mod packets;
