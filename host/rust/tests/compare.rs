@@ -9,7 +9,7 @@ use editions::{is_wrong, Renaming, OTHER_EDITIONS};
 use radar_reference::abi::{Centidegrees, Judgement, Millimetres, Reading, Reference, Subject, BAD, WAITING, WHOLE};
 use radar_reference::compare::{
     check_capture, compare_centidegrees, compare_every_float, compare_judgements, compare_millimetres,
-    compare_readings, compare_splits, Difference, Tally,
+    compare_readings, compare_splits, first_seed, Difference, Tally,
 };
 use radar_reference::judgement;
 use radar_reference::numbers::EDITIONS;
@@ -23,10 +23,6 @@ const CONVERSIONS: u64 = 1_000_000;
 const SPLIT_CAPTURES: u64 = 3000;
 /// Of all floats, one in so many.
 const STEP: usize = 1021;
-
-fn first_seed() -> u64 {
-    std::env::var("VQ_SEED").map_or(1, |seed| seed.parse().expect("VQ_SEED is a number"))
-}
 
 /// Stops the test with the seed and the bytes.
 fn agreed<T>(outcome: Result<T, Difference>) -> T {

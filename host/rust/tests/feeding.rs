@@ -9,7 +9,7 @@ use radar_reference::abi::{Reference, Subject, WAITING};
 use radar_reference::compare::feeding::{
     check_feeding, compare_cuttings, compare_long_lines, compare_made_up, compare_streams, Asked,
 };
-use radar_reference::compare::{Difference, Tally};
+use radar_reference::compare::{first_seed, Difference, Tally};
 use radar_reference::generate::random::Random;
 use radar_reference::generate::{capture, Family};
 use radar_reference::judgement::{DIALECTS, MMWAVE, SIRAD, VITAL_SIGNS};
@@ -18,10 +18,6 @@ use radar_reference::refusal::MAX_BYTES;
 
 const CALLS: u64 = 600_000;
 const MADE_UP: u64 = 200_000;
-
-fn first_seed() -> u64 {
-    std::env::var("VQ_SEED").map_or(1, |seed| seed.parse().expect("VQ_SEED is a number"))
-}
 
 /// The four runs, those over the most calls last.
 const RUNS: [(&str, fn(&dyn FeedSubject) -> Result<Tally, Difference>); 4] = [

@@ -16,7 +16,7 @@ use radar_reference::compare::fields::{
     check_throughout, compare_commands, compare_frames, compare_packets, compare_written_commands,
     compare_written_frames,
 };
-use radar_reference::compare::{Difference, Tally};
+use radar_reference::compare::{first_seed, Difference, Tally};
 use radar_reference::generate::mmwave::packet_of_points;
 use radar_reference::generate::random::Random;
 use radar_reference::numbers::EDITIONS;
@@ -148,10 +148,6 @@ const WRITTEN_FRAMES: Run = Run {
         ("write_error, refused 51", 1000),
     ],
 };
-
-fn first_seed() -> u64 {
-    std::env::var("VQ_SEED").map_or(1, |seed| seed.parse().expect("VQ_SEED is a number"))
-}
 
 fn compare(run: &Run, subject: &dyn FieldSubject) -> Result<Tally, Difference> {
     (run.compare)(subject, first_seed(), run.count)
