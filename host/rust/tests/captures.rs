@@ -3,10 +3,11 @@
 use std::fs;
 use std::path::PathBuf;
 
-use radar_reference::generate::{capture, monitor, points, targets, Family, LISTING_EXAMPLE};
+use radar_reference::generate::{capture, doorway, monitor, points, targets, Family, LISTING_EXAMPLE};
 use radar_reference::judgement::{judge, Judgement, MMWAVE, SIRAD, VITAL_SIGNS};
 use radar_reference::listing::listing;
 use radar_reference::packet::{point, record, Point};
+use radar_reference::proximity::{anyone_close, every_point};
 use radar_reference::reading::{closed_reading, open_reading, ROW};
 use radar_reference::sirad_fields::{read_targets, Target};
 
@@ -97,6 +98,33 @@ fn mmwave_points() {
     let first = |edition| point(edition, &made[place..place + length], 0);
     assert_eq!(first(1), Ok(Point { x: 63, y: -63, z: 1500, doppler: 0 }));
     assert_eq!(first(2), Ok(Point { x: 62, y: -62, z: 1500, doppler: 0 }));
+}
+
+#[test]
+fn mmwave_close_points() {
+    let made = doorway::sample(2);
+    check("mmwave-close", MMWAVE, &made);
+    let points = every_point(1, &made).unwrap();
+    let refusals = points.iter().filter_map(|located| located.point.err());
+    assert_eq!((points.len(), refusals.collect::<Vec<_>>()), (9, vec![30, 31, 30]));
+    let found = |edition, distance| {
+        let close = anyone_close(MMWAVE, edition, distance, &made).unwrap()?;
+        let Point { x, y, z, .. } = close.point.unwrap();
+        Some((close.place, close.index, [x, y, z]))
+    };
+    // Inside the broken packet, behind two points that are refused; then at 62.5 mm.
+    let (at_door, at_a_half) = (328, 549);
+    for edition in [1, 2] {
+        assert_eq!(found(edition, 500), Some((at_door, 2, [-500, 300, -125])));
+        assert_eq!(found(edition, 250), Some((at_door, 3, [250, 250, 250])));
+        assert_eq!(found(edition, 61), None);
+    }
+    assert_eq!((found(1, 63), found(1, 62)), (Some((at_a_half, 1, [63, -63, 63])), None));
+    assert_eq!(found(2, 62), Some((at_a_half, 1, [62, -62, 62])));
+    // The last packet breaks off, and the line waits for the rest of it.
+    let open = open_reading(MMWAVE, &made, &mut [0; 300]).unwrap();
+    assert_eq!((open.next, judge(MMWAVE, &made, open.next)), (made.len() - 90, Ok(Judgement::Waiting)));
+    assert_eq!(reasons(MMWAVE, &made), [20, 24]);
 }
 
 #[test]

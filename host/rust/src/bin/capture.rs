@@ -4,13 +4,14 @@
 //! `damaged` or `hostile`, writes at most LENGTH bytes. `capture points SEED PACKETS` writes mmWave packets of a few points
 //! each, with noise between them; `capture monitor SEED PACKETS` writes vital-signs packets as a monitor sends them, with
 //! noise, damaged ones and false starts; `capture targets SEED FRAMES` writes SiRad T frames of two targets and empty blocks
-//! of both forms, with noise and broken ones. `capture example` writes the 25 bytes of paper 01's listing.
+//! of both forms, with noise and broken ones; `capture doorway SEED` writes mmWave packets of points near a door, with noise
+//! and a broken packet around a true one. `capture example` writes the 25 bytes of paper 01's listing.
 
 use std::env;
 use std::io::{self, Write};
 use std::process::ExitCode;
 
-use radar_reference::generate::{capture, dialect_named, monitor, points, targets, Family, LISTING_EXAMPLE};
+use radar_reference::generate::{capture, dialect_named, doorway, monitor, points, targets, Family, LISTING_EXAMPLE};
 
 fn main() -> ExitCode {
     let arguments: Vec<String> = env::args().skip(1).collect();
@@ -19,6 +20,7 @@ fn main() -> ExitCode {
         eprintln!("usage: capture sirad|mmwave|vital-signs clean|noisy|cut|damaged|hostile SEED LENGTH");
         eprintln!("       capture points|monitor SEED PACKETS");
         eprintln!("       capture targets SEED FRAMES");
+        eprintln!("       capture doorway SEED");
         eprintln!("       capture example");
         return ExitCode::from(2);
     };
@@ -37,6 +39,7 @@ fn bytes_of(arguments: &[&str]) -> Option<Vec<u8>> {
         ["points", seed, packets] => Some(points(seed.parse().ok()?, packets.parse().ok()?)),
         ["monitor", seed, packets] => Some(monitor(seed.parse().ok()?, packets.parse().ok()?)),
         ["targets", seed, frames] => Some(targets(seed.parse().ok()?, frames.parse().ok()?)),
+        ["doorway", seed] => Some(doorway::sample(seed.parse().ok()?)),
         [dialect, family, seed, length] => {
             Some(capture(dialect_named(dialect)?, Family::named(family)?, seed.parse().ok()?, length.parse().ok()?))
         }
