@@ -1,13 +1,13 @@
 #!/usr/bin/env bash
 # The independent reader's own tests, the comparison of the library with it, and the C host's programs with their rows
-# on the sample captures: the capture at once, and as a line that goes on.
+# on the sample captures: the capture at once, as a line that goes on, and whether anyone is close.
 set -u
 cd "$(dirname "$0")/.." || exit 2
 built=$(mktemp -d) && trap 'rm -rf "$built"' EXIT
 library=$PWD/target/staticlib
 strict="-std=c99 -pedantic -Wall -Wextra -Werror"
 
-for program in gateway_demo live_demo; do
+for program in gateway_demo live_demo door_demo; do
   cc $strict -O2 -c host/c/$program.c -o "$built/$program.o" || { echo "host: $program.c"; exit 1; }
 done
 printf '#include "vellanquor.h"\nint main() { return 0; }\n' >"$built/header.cc"
@@ -19,7 +19,7 @@ fi
 export VQ_LIB_DIR=$library
 (cd host/rust && cargo test --release --offline --quiet) || { echo "host: cargo test"; exit 1; }
 
-for program in gateway_demo live_demo; do
+for program in gateway_demo live_demo door_demo; do
   cc "$built/$program.o" "$library/libvellanquor.a" -o "$built/$program" || exit 1
 done
 cc -std=c11 -Wall -Wextra -Werror -shared -fPIC -o "$built/faults.so" tests/faults.c || exit 1
@@ -56,6 +56,32 @@ if "$built/gateway_demo" mmwave captures/mmwave-points.bin 3 >"$built/read" 2>&1
   echo "host: gateway_demo takes edition 3"
   exit 1
 fi
+
+# door STATUS LINE ARGUMENTS: door_demo prints this line, empty for none, and exits so.
+door() {
+  "$built/door_demo" "${@:3}" >"$built/read" 2>"$built/err"
+  local status=$?
+  printf '%b' "$2" | cmp - "$built/read" && [ "$status" -eq "$1" ] || { echo "host: door_demo ${*:3}, status $status"; exit 1; }
+}
+
+# The first close point within half a metre stands in a packet inside a broken one; the half of a millimetre goes by the edition.
+near=captures/mmwave-close.bin
+door 0 'close\t328\t2\t-500\t300\t-125\n' 500 $near
+door 0 'close\t21\t0\t750\t100\t-100\n' 1000000 $near
+door 0 'close\t549\t1\t63\t-63\t63\n' 63 $near 1
+door 1 'nobody\n' 62 $near
+door 0 'close\t549\t1\t62\t-62\t62\n' 62 $near 2
+door 1 'nobody\n' 0 $near 2
+door 1 'nobody\n' 1000000 captures/sirad-mix.bin
+door 2 'refused\t33\n' 1000001 $near
+door 2 'refused\t33\n' 99999999999999999999 $near
+door 2 'refused\t32\n' 1000001 $near 3
+head -c 1048577 /dev/zero >"$built/long"
+door 2 'refused\t3\n' 1000001 "$built/long" 3
+for arguments in "500" "5x $near" "-5 $near" "500 $near 1 1" "500 captures/none.bin"; do
+  door 2 '' $arguments
+  [ -s "$built/err" ] || { echo "host: door_demo says nothing on $arguments"; exit 1; }
+done
 
 # The first phases of each P frame, in whole hundredths of a degree; no character lies between two of them.
 "$built/gateway_demo" sirad captures/sirad-mix.bin >"$built/read" || exit 1

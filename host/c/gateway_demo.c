@@ -12,9 +12,9 @@
 #include <stdint.h>
 #include <stdio.h>
 #include <stdlib.h>
-#include <string.h>
 
 #include "../include/vellanquor.h"
+#include "arguments.h"
 #include "names.h"
 
 /* Rows of the table; a capture with more frames is read in several calls. */
@@ -106,28 +106,6 @@ static void print_phases(const uint8_t *frame, size_t length)
     }
 }
 
-/* All of the file, or a null pointer. One byte more than the limit is enough to be refused. */
-static uint8_t *read_file(const char *name, size_t *count)
-{
-    const size_t most = (size_t)VQ_MAX_BYTES + 1;
-    uint8_t *bytes = NULL;
-    FILE *file = fopen(name, "rb");
-
-    if (file == NULL) {
-        return NULL;
-    }
-    bytes = malloc(most);
-    if (bytes != NULL) {
-        *count = fread(bytes, 1, most, file);
-        if (ferror(file)) {
-            free(bytes);
-            bytes = NULL;
-        }
-    }
-    fclose(file);
-    return bytes;
-}
-
 /* The closed reading with a table that may be too short: a full one is printed and the reading goes on behind it. */
 static int walk(uint32_t dialect, uint32_t edition, const uint8_t *bytes, size_t count)
 {
@@ -184,12 +162,6 @@ static void print_next(uint32_t dialect, const uint8_t *bytes, size_t count)
     if (reading.refusal == 0 && judgement.refusal == 0 && judgement.state == VQ_WAITING) {
         printf("a line that goes on waits at %lu\n", (unsigned long)start);
     }
-}
-
-/* The edition of a word, or one that there is not. */
-static uint32_t edition_of(const char *word)
-{
-    return strcmp(word, "1") == 0 ? VQ_EDITION_1 : strcmp(word, "2") == 0 ? VQ_EDITION_2 : 0;
 }
 
 int main(int argc, char **argv)

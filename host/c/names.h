@@ -1,4 +1,4 @@
-/* The names of dialects and kinds, as both programs have them. */
+/* The names of dialects and kinds, as gateway_demo and live_demo have them. */
 #ifndef NAMES_H
 #define NAMES_H
 
