@@ -30,12 +30,12 @@ if [ -z "$(ls $corpus)" ]; then
   for dialect in 0 1 2; do
     for family in clean noisy cut damaged hostile; do
       for seed in $(seq 1 40); do
-        { printf "\\x0$dialect\\xff\\x08\\x30\\x31\\x60\\xa0\\xfe\\x10\\x06\\x0$((seed % 4))\\x00\\x00\\x00"
+        { printf "\\x0$dialect\\xff\\x08\\x30\\x31\\x60\\xa0\\xfe\\x10\\x06\\x0$((seed % 4))\\x00\\x00\\x00\\xf4\\x01\\x00\\x00"
           target/seeds/release/capture ${dialects[dialect]} $family $seed ${lengths[seed % 5]}
         } >$corpus/${dialects[dialect]}-$family-$seed
       done
     done
   done
 fi
-exec target/fuzz -max_total_time="$seconds" -max_len=614 -dict=words.dict -use_value_profile=1 -print_final_stats=1 \
+exec target/fuzz -max_total_time="$seconds" -max_len=618 -dict=words.dict -use_value_profile=1 -print_final_stats=1 \
   -artifact_prefix=target/ $corpus

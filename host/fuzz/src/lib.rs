@@ -1,17 +1,22 @@
 //! What libFuzzer calls: the gateway library against the independent reader on one capture.
 //!
 //! Byte 0 of an input chooses the dialect, byte 1 the place of a split, bytes 2 to 7 where the feeder's calls are cut, bytes 8
-//! and 9 the sizes of its carry and table, bytes 10 to 13 are an edition; the capture is the rest. Compared are the judgement
-//! at every place, both readings with tables of eight sizes, demand 3 at the split, each four bytes as the bits of a
-//! coordinate, the field readers on every frame and on the capture, each by both editions and by the input's, and the
-//! feeder on the capture as a line and with made-up streams. A difference is printed and ends the run, and libFuzzer keeps
-//! the input.
+//! and 9 the sizes of its carry and table, bytes 10 to 13 are an edition, bytes 14 to 17 a distance; the capture is the rest.
+//! Compared are the judgement at every place, both readings with tables of eight sizes, demand 3 at the split, each four
+//! bytes as the bits of a coordinate, the field readers on every frame and on the capture, each by both editions and by the
+//! input's, whether anyone is close in mmWave by these editions within the input's distance and those about which the answer turns,
+//! and the feeder on the capture as a line and with made-up streams. A difference is printed and ends the run, and libFuzzer
+//! keeps the input.
 
 #[cfg(not(feature = "wrong"))]
 use radar_reference::compare::feeding::check_feeding;
 #[cfg(not(feature = "wrong"))]
 use radar_reference::compare::fields::check_fields;
+#[cfg(not(feature = "wrong"))]
+use radar_reference::compare::proximity::check_proximity;
 use radar_reference::compare::{check_capture, check_millimetres, check_split};
+#[cfg(not(feature = "wrong"))]
+use radar_reference::judgement::MMWAVE;
 
 #[cfg(not(feature = "wrong"))]
 use radar_reference::gateway::Gateway as Tried;
@@ -19,7 +24,7 @@ use radar_reference::gateway::Gateway as Tried;
 use wrong::Wrong as Tried;
 
 /// The bytes before the capture.
-const CHOICES: usize = 14;
+const CHOICES: usize = 18;
 
 /// The function that libFuzzer calls with each input.
 ///
@@ -49,6 +54,10 @@ fn compare(choices: &[u8], capture: &[u8]) -> Result<(), String> {
     check_capture(&Tried, dialect, capture)?;
     #[cfg(not(feature = "wrong"))]
     check_fields(&Tried, dialect, edition, capture).map_err(|difference| difference.what)?;
+    #[cfg(not(feature = "wrong"))]
+    if dialect == MMWAVE {
+        check_proximity(&Tried, edition, word(&choices[14..]), capture)?;
+    }
     #[cfg(not(feature = "wrong"))]
     check_feeding(&Tried, dialect, capture, &places[1..], usize::from(choices[8]), usize::from(choices[9]))?;
     // Last, because it ends with judgements: libFuzzer tries the operands of the last comparisons.
