@@ -21,7 +21,7 @@ fn main() {
         run(Command::new(&compiler).args(flags).arg(format!("{name}.c")).arg("-o").arg(&object));
         objects.push(object);
     }
-    for header in ["reader.h", "judge.h"] {
+    for header in ["reader.h", "judge.h", "packet.h", "millimetres.h"] {
         println!("cargo:rerun-if-changed={header}");
     }
     run(Command::new("ar").arg("crs").arg(out.join("libpeers.a")).args(&objects));

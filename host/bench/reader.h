@@ -36,7 +36,6 @@ struct c_reading c_closed_reading(uint32_t dialect, const uint8_t *bytes, size_t
 /* The number of rows that the new bytes bring, or SIZE_MAX if the buffer or the table is too small. */
 size_t c_read_line(struct c_line *line, uint32_t dialect, const uint8_t *bytes, size_t count, uint32_t *table,
                    size_t numbers);
-struct c_millimetres c_millimetres(uint32_t edition, uint32_t bits);
 struct c_centidegrees c_centidegrees(uint8_t character);
 
 #endif
