@@ -14,7 +14,7 @@ fn main() {
     let out = PathBuf::from(env::var_os("OUT_DIR").expect("cargo sets OUT_DIR"));
     let compiler = env::var("CC").unwrap_or_else(|_| "cc".to_owned());
     let mut objects = Vec::new();
-    for name in ["reader", "line", "measure"] {
+    for name in ["reader", "line", "close", "measure"] {
         println!("cargo:rerun-if-changed={name}.c");
         let object = out.join(format!("{name}.o"));
         let flags = ["-std=c11", "-pedantic", "-Wall", "-Wextra", "-Werror", "-O3", "-fPIC", "-c"];

@@ -71,13 +71,13 @@ pub fn measure(document: Option<&Path>, picture: Option<&Path>) {
 /// What runs under callgrind.
 pub fn run_counted() {
     for (index, workload) in WORKLOADS.iter().enumerate() {
-        let all = workload.bytes(SIZES[SIZES.len() - 1]);
         for (step, &size) in SIZES.iter().enumerate() {
-            let mut table = table_for(&all[..size]);
+            let bytes = workload.bytes(size);
+            let mut table = table_for(&bytes);
             for (number, &peer) in Peer::ALL.iter().enumerate().filter(|(_, peer)| peer.can(workload.task)) {
                 // Outside the count, so that the dynamic linker has done its work.
-                black_box(peer.run(workload.task, &all[..64], &mut table));
-                black_box(measured(peer, workload.task, black_box(&all[..size]), &mut table));
+                black_box(peer.run(workload.task, &bytes[..64], &mut table));
+                black_box(measured(peer, workload.task, black_box(&bytes), &mut table));
                 mark(&format!("run {index} {step} {number}"));
             }
         }
@@ -101,7 +101,7 @@ pub fn run_one(peer: &str, workload: &str, size: usize) {
     println!("{:?}", measured(*peer, workload.task, black_box(&bytes), &mut table));
 }
 
-/// What callgrind collects of readings, conversions and phases.
+/// What callgrind collects of readings, conversions, phases and questions.
 #[no_mangle]
 #[inline(never)]
 pub fn measured(peer: Peer, task: Task, bytes: &[u8], table: &mut [u32]) -> (usize, usize) {

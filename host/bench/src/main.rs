@@ -19,7 +19,7 @@ use std::path::PathBuf;
 
 const USAGE: &str = "usage: radar-bench agree | times [DOCUMENT] | counts [DOCUMENT PLOT] | one PEER WORKLOAD [BYTES]
        radar-bench line WAY LINE CALL
-  agree   all readers on all workloads, 64 KiB to 1 MiB: the same rows and skipped bytes; all ways to read a line
+  agree   all readers on all workloads, 64 KiB to 1 MiB: the same answers; all ways to read a line
   times   the ratios of the times on 1 MiB
   counts  the instructions by callgrind, from 64 KiB to 1 MiB, and their plot
   one     one run on 1 MiB or so many bytes, to be looked at under callgrind with --toggle-collect=measured

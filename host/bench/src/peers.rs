@@ -2,15 +2,16 @@
 
 #![allow(unsafe_code)]
 
+use radar_reference::abi::proximity::Closeness;
 #[cfg(gateway_linked)]
 use radar_reference::abi::{Centidegrees, Millimetres, Reading};
-use radar_reference::judgement::SIRAD;
+use radar_reference::judgement::{MMWAVE, SIRAD};
 use radar_reference::numbers::{millimetres, phase_hundredths};
 use radar_reference::packet_rules::MAGIC;
 use radar_reference::reading::{self, ROW};
 use radar_reference::sirad::START_MARKER;
 
-use crate::workloads::{Task, Workload};
+use crate::workloads::{Task, Workload, DISTANCE};
 
 /// A reader in the table.
 #[derive(Clone, Copy, Debug, PartialEq, Eq)]
@@ -61,6 +62,7 @@ extern "C" {
     fn c_closed_reading(dialect: u32, bytes: *const u8, count: usize, table: *mut u32, numbers: usize) -> CReading;
     fn c_millimetres(edition: u32, bits: u32) -> CMillimetres;
     fn c_centidegrees(character: u8) -> CCentidegrees;
+    fn c_anyone_close(dialect: u32, edition: u32, distance: u32, bytes: *const u8, count: usize) -> Closeness;
     fn count_by_memchr(byte: u8, bytes: *const u8, count: usize) -> usize;
 }
 
@@ -69,6 +71,7 @@ extern "C" {
     fn vq_closed_reading(dialect: u32, bytes: *const u8, count: usize, table: *mut u32, numbers: usize) -> Reading;
     fn vq_millimetres(edition: u32, bits: u32) -> Millimetres;
     fn vq_centidegrees(character: u8) -> Centidegrees;
+    fn vq_anyone_close(dialect: u32, edition: u32, distance: u32, bytes: *const u8, count: usize) -> Closeness;
 }
 
 impl Peer {
@@ -102,6 +105,7 @@ impl Peer {
             #[cfg(feature = "nom")]
             Peer::Nom => matches!(task, Task::Read(_)),
             Peer::Memchr => matches!(task, Task::Read(_)),
+            Peer::Rust => !matches!(task, Task::AnyoneClose(_)),
             _ => true,
         }
     }
@@ -112,13 +116,14 @@ impl Peer {
     }
 
     /// Does the workload's task on its bytes. This is what is measured. The answers go to `table`: rows of three
-    /// numbers, or a refusal and a value for each float or character. Gives the rows (floats, characters) and the
-    /// skipped bytes.
+    /// numbers, or a refusal and a value for each float or character, or the four numbers of the answer to a question.
+    /// Gives the rows (floats, characters, questions) and the skipped bytes.
     pub fn run(self, task: Task, bytes: &[u8], table: &mut [u32]) -> (usize, usize) {
         match task {
             Task::Read(dialect) => self.read(dialect, bytes, table),
             Task::Convert(edition) => self.convert(edition, bytes, table),
             Task::Phases => self.phases(bytes, table),
+            Task::AnyoneClose(_) => self.anyone_close(bytes, table),
         }
     }
 
@@ -190,6 +195,19 @@ impl Peer {
             }),
         }
     }
+
+    fn anyone_close(self, bytes: &[u8], table: &mut [u32]) -> (usize, usize) {
+        let ask = match self {
+            #[cfg(gateway_linked)]
+            Peer::Gateway => vq_anyone_close,
+            Peer::C => c_anyone_close,
+            _ => panic!("{} is not asked", self.name()),
+        };
+        // SAFETY: the pointer and the length are those of a slice.
+        let answer = unsafe { ask(MMWAVE, 1, DISTANCE, bytes.as_ptr(), bytes.len()) };
+        table[..4].copy_from_slice(&[answer.refusal, answer.close, answer.place as u32, answer.index as u32]);
+        (1, 0)
+    }
 }
 
 fn each_float(bytes: &[u8], table: &mut [u32], convert: impl Fn(u32) -> [u32; 2]) -> (usize, usize) {
@@ -219,8 +237,10 @@ pub fn demand_agreement(workload: &Workload, bytes: &[u8]) {
     for &peer in Peer::ALL.iter().filter(|peer| peer.reads() && peer.can(workload.task)) {
         let mut table = table_for(bytes);
         let (rows, skipped) = peer.run(workload.task, bytes, &mut table);
-        let per_row = if matches!(workload.task, Task::Read(_)) { ROW } else { 2 };
-        let found = Found { rows, skipped, hash: hash(&table[..per_row * rows]) };
+        if let Task::AnyoneClose(answer) = workload.task {
+            assert_eq!(table[..2], [0, u32::from(answer)], "{} on {}", peer.name(), workload.name);
+        }
+        let found = Found { rows, skipped, hash: hash(&table[..workload.task.width() * rows]) };
         let (other, expected) = *first.get_or_insert((peer, found));
         assert_eq!(found, expected, "{} against {} on {}", peer.name(), other.name(), workload.name);
     }

@@ -1,10 +1,13 @@
 //! The buffers that are read: real lines, lines in noise, and bytes chosen to cost as much as can be.
 
+use std::cmp::Ordering;
+
 use radar_reference::generate::floats::{float_bits, float_half};
 use radar_reference::generate::random::Random;
 use radar_reference::generate::{mmwave, sirad, vital_signs};
 use radar_reference::judgement::{MMWAVE, SIRAD, VITAL_SIGNS};
 use radar_reference::packet_rules::MAGIC;
+use radar_reference::reading::ROW;
 
 /// What a workload's bytes are for.
 #[derive(Clone, Copy, Debug, PartialEq, Eq)]
@@ -15,7 +18,23 @@ pub enum Task {
     Convert(u32),
     /// Each byte is a character, to be given in hundredths of a degree.
     Phases,
+    /// mmWave packets, to be asked whether a point is within [`DISTANCE`] by edition 1, and whether one is.
+    AnyoneClose(bool),
 }
+
+impl Task {
+    /// The numbers of each answer: of a row, of a float or character, of a question.
+    pub fn width(self) -> usize {
+        match self {
+            Task::Read(_) => ROW,
+            Task::Convert(_) | Task::Phases => 2,
+            Task::AnyoneClose(_) => 4,
+        }
+    }
+}
+
+/// How many millimetres are close.
+pub const DISTANCE: u32 = 2000;
 
 /// A kind of buffer.
 pub struct Workload {
@@ -27,7 +46,7 @@ pub struct Workload {
 }
 
 impl Workload {
-    /// The buffer of so many bytes. A longer one begins with the shorter ones.
+    /// The buffer of so many bytes.
     pub fn bytes(&self, size: usize) -> Vec<u8> {
         let mut bytes = (self.make)(&mut Random::new(1), size);
         bytes.truncate(size);
@@ -48,8 +67,12 @@ const fn phases(name: &'static str, make: fn(&mut Random, usize) -> Vec<u8>) -> 
     Workload { name, task: Task::Phases, make }
 }
 
+const fn anyone_close(name: &'static str, answer: bool, make: fn(&mut Random, usize) -> Vec<u8>) -> Workload {
+    Workload { name, task: Task::AnyoneClose(answer), make }
+}
+
 /// All workloads, in the order of the tables.
-pub const WORKLOADS: [Workload; 30] = [
+pub const WORKLOADS: [Workload; 35] = [
     read("SiRad T, back to back", SIRAD, |random, size| repeat(size, || targets(random, DIGITS))),
     read("SiRad T, every digit 0", SIRAD, |random, size| repeat(size, || targets(random, b"0"))),
     read("SiRad T, two targets, rest \"0\"", SIRAD, |random, size| repeat(size, || two_targets(random, [b'0'; 14]))),
@@ -92,6 +115,13 @@ pub const WORKLOADS: [Workload; 30] = [
         bytes
     }),
     phases("any bytes as phases", |random, size| (0..size).map(|_| random.byte()).collect()),
+    anyone_close("anyone close: points, none", false, |random, size| passage(random, size, [1.5, -2.0, 2.5, 0.0])),
+    anyone_close("anyone close: points, the last", true, |random, size| passage(random, size, [1.5, -2.0, 2.0, 0.0])),
+    anyone_close("anyone close: in noise, none", false, |random, size| {
+        repeat(size, || with_noise(random, few_far_points))
+    }),
+    anyone_close("anyone close: magics everywhere", false, |_, size| repeat(size, || MAGIC.to_vec())),
+    anyone_close("anyone close: 32 records, unfit", false, |_, size| repeat(size, unfit_chain)),
 ];
 
 const DIGITS: &[u8] = b"0123456789ABCDEF";
@@ -201,6 +231,57 @@ fn points(random: &mut Random) -> Vec<u8> {
     let side = (0..80).map(|_| random.byte()).collect();
     let statistics = (0..24).map(|_| random.byte()).collect();
     packet(512, 20, &[(1, floats), (7, side), (6, statistics)])
+}
+
+/// Packets of 40 to 60 far points with their side information and the statistics, as [`points`] has them. The last packet takes
+/// up the rest, and its last point is this one.
+fn passage(random: &mut Random, size: usize, last: [f32; 4]) -> Vec<u8> {
+    // The header, those of the records and the statistics take 88 bytes, a point with its side information 20.
+    let longest = (88 + 20 * 60_usize).next_multiple_of(32);
+    let mut bytes = Vec::with_capacity(size);
+    while size - bytes.len() > 2 * longest {
+        let count = random.within(40, 60);
+        bytes.extend(far_packet(random, count));
+    }
+    let rest = size - bytes.len();
+    let mut points = far_points(random, rest.saturating_sub(88 + 20) / 20);
+    points.push(last);
+    bytes.extend(mmwave::packet_of_points(random, &points));
+    bytes
+}
+
+fn few_far_points(random: &mut Random) -> Vec<u8> {
+    let count = random.within(1, 20);
+    far_packet(random, count)
+}
+
+fn far_packet(random: &mut Random, count: usize) -> Vec<u8> {
+    let points = far_points(random, count);
+    mmwave::packet_of_points(random, &points)
+}
+
+fn far_points(random: &mut Random, count: usize) -> Vec<[f32; 4]> {
+    (0..count).map(|_| far_point(random)).collect()
+}
+
+/// X, Y or Z is the first coordinate that is not within [`DISTANCE`]; what is behind it is within 12 metres.
+fn far_point(random: &mut Random) -> [f32; 4] {
+    let far = random.below(3);
+    std::array::from_fn(|axis| match axis.cmp(&far) {
+        Ordering::Less => metres(random, 0, DISTANCE),
+        Ordering::Equal => metres(random, DISTANCE + 1, 12_000),
+        Ordering::Greater => metres(random, 0, 12_000),
+    })
+}
+
+/// Whole or half millimetres, from the least to the most in magnitude.
+fn metres(random: &mut Random, least: u32, most: u32) -> f32 {
+    let magnitude = random.within(2 * least as usize, 2 * most as usize) as f32 / 2000.0;
+    if random.once_in(2) {
+        -magnitude
+    } else {
+        magnitude
+    }
 }
 
 fn coordinates(random: &mut Random, size: usize) -> Vec<u8> {
