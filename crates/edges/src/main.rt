@@ -75,14 +75,14 @@ fn float(edition: u32, bits: u32) {
 fn decibels(character: u8) {
     io::write_all(OUT, b"dB\t-\t");
     io::print_decimal(OUT, character as u64);
-    print_quantity(units::decibels_of(character));
+    print_quantity(character_units::decibels_of(character));
     end_line();
 }
 
 fn phase(character: u8) {
     io::write_all(OUT, b"phase\t-\t");
     io::print_decimal(OUT, character as u64);
-    print_quantity(units::centidegrees_of(character));
+    print_quantity(character_units::centidegrees_of(character));
     end_line();
 }
 
@@ -144,8 +144,8 @@ fn table() {
 
 fn character(byte: u8) {
     io::print_decimal(OUT, byte as u64);
-    print_quantity(units::decibels_of(byte));
-    print_quantity(units::centidegrees_of(byte));
+    print_quantity(character_units::decibels_of(byte));
+    print_quantity(character_units::centidegrees_of(byte));
     end_line();
 }
 

@@ -41,5 +41,5 @@ pub extern "C" fn vq_millimetres(edition: u32, bits: u32) -> Quantity
 pub extern "C" fn vq_centidegrees(character: u8) -> Quantity
     ensures { λ r. ⌜ r ≡ centidegrees character ⌝ }
 {
-    units::centidegrees_of(character)
+    character_units::centidegrees_of(character)
 }

@@ -2,5 +2,4 @@ pub mod Rounding
 pub mod Theorems
 pub mod Bits
 pub mod Rising
-pub mod Phase
 pub mod Machine

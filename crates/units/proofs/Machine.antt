@@ -12,11 +12,10 @@ use lib.IntN.{pos, negℤ, _-ℤ_, +ℤ-idl}
 use mir.Syntax.{w32}
 use mir.Val.{SFits, toZ, ofZ}
 use mir.Facts.{toZ-pos, toZ-ofZ}
-use Rattle.digits.specs.Bytes.{isCharacter}
 use Rattle.digits.proofs.Choices.{test}
-use Rattle.units.specs.Rounding.{distance, signed, Ties, toAway, halfUp, nearest}
+use Rattle.units.specs.Rounding.{signed, Ties, toAway, halfUp, nearest}
 use Rattle.units.specs.Float.{negative, exponent, fraction, magnitude}
-use Rattle.units.specs.Units.{value, refused, decibels, isEdition, tiesOf, accuracyMillimetres}
+use Rattle.units.specs.Units.{value, refused, isEdition, tiesOf, accuracyMillimetres}
 use Rattle.units.specs.Units.{wholeMillimetres, noMillimetres, coordinate, millimetres}
 use Rattle.units.specs.Internal.{Inside, parts, outside}
 use Rattle.units.proofs.Rounding.{half-most, fixed, nearest-scaled}
@@ -112,30 +111,6 @@ made-negative sign q h t = rw (t, minus q h) (ap value (toZ-ofZ {w = w32} {z = n
 -- the code's number of a positive sign
 pub made-positive : (sign : Bool) (q : ℕ) → q ≤ 1000000 → sign ≡ false → value (toZ w32 q) ≡ value (signed sign q)
 made-positive sign q h t = rw t (ap value (toZ-pos w32 {n = q} (omega arith)))
-
--- -- dB
-
--- a difference by its sign and magnitude
-difference : (c k : ℕ) → signed (ltb c (suc k)) (distance c (suc k)) ≡ pos c -ℤ pos (suc k)
-difference c k =
-    test
-    (ltb c (suc k))
-    (λ t. let h : c < suc k = ltb-true c (suc k) t in
-    let e : distance c (suc k) ≡ suc (suc k - suc c) = omega arith in
-    rw (t, e) refl)
-    (λ t. let h : suc k ≤ c = ltb-false c (suc k) t in
-    let e : distance c (suc k) ≡ c - suc k = omega arith in
-    rw (t, e) refl)
-
--- the dB of a character
-pub decibels-value : (c a : ℕ) → isCharacter c ≡ true → a ≡ distance c 174 → value (signed (ltb c 174) a) ≡ decibels c
-unfolding decibels
-decibels-value c a t e = simp (t, e) (ap value (difference c 173))
-
--- no dB for any other byte
-pub decibels-refused : (c : ℕ) → isCharacter c ≡ false → refused 50 ≡ decibels c
-unfolding decibels
-decibels-refused c t = simp t
 
 -- both zeros are 0
 signed-zero : (negative : Bool) → signed negative 0 ≡ pos 0

@@ -1,10 +1,10 @@
-// The number rules: what characters, accuracies and coordinates mean (paper 01, "Numbers"; paper 02, (iv), (v)).
-// Sign and magnitude stay apart up to `signed_quantity`, and a phase is worked out half a turn on; so all numbers before the last step are
-// whole and not negative, and no rounding but ours takes place.
+// The number rules (paper 01, "Numbers"; paper 02, (iv), (v)): all definitions and theorems, and what accuracies and coordinates mean;
+// `character_units` has what characters mean. Sign and magnitude stay apart up to `signed_quantity`; so all numbers before the last step
+// are whole and not negative, and no rounding but ours takes place.
 ghost use Prim.Native.Nat.{_^_, _<_, _≤_};
 ghost use mathlib.Core.Path.{_≡_};
-ghost use Rattle.units.specs.Rounding.{distance, signed, halfUp, nearest};
-ghost use Rattle.units.specs.Units.{value, refused, decibels, centidegrees, isEdition, tiesOf, accuracyMillimetres};
+ghost use Rattle.units.specs.Rounding.{signed, halfUp, nearest};
+ghost use Rattle.units.specs.Units.{value, refused, isEdition, tiesOf, accuracyMillimetres};
 ghost use Rattle.units.specs.Units.{coordinate, millimetres};
 ghost use Rattle.units.specs.Internal.{Inside, parts, outside};
 
@@ -14,26 +14,6 @@ const NOT_FINITE: u32 = 30;
 const TOO_FAR: u32 = 31;
 
 const NO_EDITION: u32 = 32;
-
-const NO_ENCODING: u32 = 50;
-
-// The characters that mean 0 dB and a phase of 0.
-const ZERO_DECIBELS: u32 = 174;
-
-const ZERO_PHASE: u32 = 144;
-
-// 110 steps from character to character are half a turn: each is 1800 / 11 hundredths of a degree.
-const HALF_TURN_STEPS: u32 = 110;
-
-const HALF_TURN: i32 = 18000;
-
-// In fixed point a hundredth of a degree is 2 ^ PHASE_BITS parts and half of one is HALF_PHASE; a step is PHASE_STEP parts and 3 / 11. The
-// 220 steps of a whole turn miss 60 parts by it, and no phase is within 93 parts of a half.
-const PHASE_STEP: u32 = 335127;
-
-const HALF_PHASE: u32 = 1024;
-
-const PHASE_BITS: u32 = 11;
 
 // The editions of the rule at exact halves: the first takes them away from zero, the second to the even neighbour.
 const AWAY_EDITION: u32 = 1;
@@ -103,16 +83,6 @@ fn signed_quantity(negative: bool, magnitude: u32) -> Quantity
     }
 }
 
-// How far two numbers are apart.
-fn apart(a: u32, b: u32) -> u32
-    ensures { λ r. ⌜ r ≡ distance a b ⌝ }
-{
-    if a < b {
-        return b - a;
-    }
-    a - b
-}
-
 // Whether there is an edition of this number.
 fn is_edition(edition: u32) -> bool
     ensures { λ r. ⌜ r ≡ isEdition edition ⌝ }
@@ -136,34 +106,6 @@ fn rounded(edition: u32, n: u32, d: u32) -> u32
     ensures { λ r. ⌜ r ≡ nearest (tiesOf edition) n d ⌝ }
 {
     (2 * n + (d - 1) + half_up(edition, n / d)) / (2 * d)
-}
-
-// What a character means in dB: 90 (`Z`) is -84, and 33 is refused with 50.
-pub fn decibels_of(character: u8) -> Quantity
-    ensures { λ r. ⌜ r ≡ decibels character ⌝ }
-{
-    if digits::is_character(character) {
-        let c = character as u32;
-        return signed_quantity(c < ZERO_DECIBELS, apart(c, ZERO_DECIBELS));
-    }
-    refusal_of(NO_ENCODING)
-}
-
-// What a character means as a phase, in hundredths of a degree: 90 (`Z`) is -8836, and 33 is refused with 50.
-// No division, loop, recursion or table (paper 02, (v)): a multiplication and a shift, half a turn on.
-pub fn centidegrees_of(character: u8) -> Quantity
-    ensures { λ r. ⌜ r ≡ centidegrees character ⌝ }
-{
-    if digits::is_character(character) {
-        let steps = (character as u32) + HALF_TURN_STEPS - ZERO_PHASE;
-        let turned = (PHASE_STEP * steps + HALF_PHASE) >> PHASE_BITS;
-        let phase = (turned as i32) - HALF_TURN;
-        return Quantity {
-            refusal: 0,
-            value: phase,
-        };
-    }
-    refusal_of(NO_ENCODING)
 }
 
 // Tenths of a millimetre to whole millimetres: 512 is 51, and 5 is 1 in edition 1 and 0 in edition 2; 32 for any other edition.

@@ -280,8 +280,8 @@ impl Form {
         let most = total.checked_sub(place + 8 * (behind as usize + 1))?;
         (0..=most).rev().find(|&length| {
             let end = place + 8 + length;
-            agrees(there, place + 4, length as u32)
-                && self.is_legal(record_type, length as u64, objects)
+            self.is_legal(record_type, length as u64, objects)
+                && agrees(there, place + 4, length as u32)
                 && if behind == 0 {
                     (if self.dialect == 1 { end.next_multiple_of(32) } else { end }) == total
                 } else {

@@ -1,13 +1,13 @@
--- `units::centidegrees_of` meets its contract: a character is a phase, any other byte is refused.
+-- `character_units::centidegrees_of` meets its contract: a character is a phase, any other byte is refused.
 use mathlib.Core.Bool.{true}
 use mathlib.Core.Path.{_≡_, sym, _∙_}
 use native.Mathlib.Omega.{arith}
 use borrow.Author.Needs.{needs}
 use Rattle.digits.specs.Bytes.{isCharacter}
 use Rattle.digits.proofs.Choices.{within-bounds}
-use Rattle.units.proofs.Phase.{half-turn-fits, centidegrees-value, centidegrees-refused}
-use Rattle.units.proofs.centidegrees_of.Statement.{statement}
-use Rattle.units.proofs.centidegrees_of.Tie as tie
+use Rattle.character_units.proofs.CharacterLaws.{less-fits, centidegrees-value, centidegrees-refused}
+use Rattle.character_units.proofs.centidegrees_of.Statement.{statement}
+use Rattle.character_units.proofs.centidegrees_of.Tie as tie
 
 is-character-requires : tie.Need-is-character-requires
 is-character-requires c κs = search needs
@@ -31,7 +31,7 @@ cast-phase : tie.Need-cast-phase
 cast-phase c = search needs
 
 sub-phase : tie.Need-sub-phase
-sub-phase c = half-turn-fits (cast-phase c)
+sub-phase c = less-fits (omega arith) (cast-phase c)
 
 returns : tie.Need-returns
 returns c = centidegrees-value _ (is c)
