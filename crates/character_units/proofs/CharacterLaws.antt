@@ -1,5 +1,5 @@
 -- A character in dB by a subtraction, and its phase by a multiplication and a shift, half a turn on: 110 steps are 18000 hundredths of a
--- degree, and nothing is negative.
+-- degree, and nothing is negative before these are taken off.
 use mathlib.Core.Bool.{true, false}
 use mathlib.Core.Path.{_≡_, refl, _∙_, ap}
 use Prim.Native.Nat.{ℕ, suc, _+_, _-_, _*_, _/_, _^_, _<_, _≤_}
