@@ -1,7 +1,7 @@
 #!/usr/bin/env python3
 """The slices that judge_cases reads, and the lines it prints of them, from paper 01 ("SiRad", "mmWave", "Judging a place", "Values at
-the edges"), paper 02 (i) and (ii) and documents 000, 002 and 004 alone. `judge_cases.py stdin` writes the slices, each behind its length
-in four bytes.
+the edges"), paper 02 (i), (ii) and (vii) and documents 000, 002 and 004 alone. `judge_cases.py stdin` writes the slices, each behind its
+length in four bytes.
 
 The judgement of a packet is read off the paper by searching: a length, a type or a record count passes if some choice of what
 follows ends so that L is the smallest multiple of 32 not below the end of the last record, or, for vital signs, that end itself.
@@ -105,6 +105,10 @@ class MmWave:
             return size == 28
         return True
 
+    def again(tag, seen):
+        """Does a known type occur again, or 8 with 4 present, or 4 with 8?"""
+        return (1 <= tag <= 9 and tag in seen) or (tag == 8 and 4 in seen) or (tag == 4 and 8 in seen)
+
     def ends_well(end, total):
         """Is the total length the smallest multiple of 32 not below the end?"""
         return end <= total and -(-end // 32) * 32 == total
@@ -130,14 +134,17 @@ class VitalSigns:
             return size == {1: 24, 4: 20}[tag]
         return (tag == 2 and size % 4 == 0) or (tag == 3 and size % 16 == 0)
 
+    def again(tag, seen):
+        return False
+
     def ends_well(end, total):
         return end == total
 
 
 @lru_cache(maxsize=None)
 def some_end(dialect, least, total):
-    """Does some end, from the least on by what a payload of one record can add, end well? mmWave's free types have every length; all
-    lengths of vital signs are multiples of 4, and type 2 has each of them."""
+    """Does some end, from the least on by what a payload of one record can add, end well? mmWave's free types have every length and may
+    repeat; all lengths of vital signs are multiples of 4, and type 2 has each of them."""
     return any(dialect.ends_well(end, total) for end in range(least, total + 1, 1 if dialect is MmWave else 4))
 
 
@@ -171,11 +178,14 @@ def packet_judgement(dialect, data):
             return WAITING
         if not passes():
             return ("bad", reason)
-    objects, place = number(data, 28), 40
+    objects, place, seen = number(data, 28), 40, []
     for left in range(number(data, 32), 0, -1):
         if len(data) < place + 4:
             return WAITING
         tag = number(data, place)
+        if dialect.again(tag, seen):
+            return ("bad", 25)
+        seen.append(tag)
         if not some_length(dialect, tag, objects, place, left, total):
             return ("bad", 23)
         if len(data) < place + 8:
@@ -277,6 +287,51 @@ def most_records():
     return [packet(total, 0, 32, 32 * record(10, 0)) for total in (288, 320, 352)]
 
 
+# A legal payload length of each known type with one object; any other type has 5 bytes.
+SIZES = {1: 16, 2: 2, 3: 4, 4: 8, 5: 6, 6: 24, 7: 4, 8: 12, 9: 28}
+
+
+def of_types(*tags, total=None, records=None):
+    """A packet of one object with a record of each of these types; L and K are theirs or these."""
+    body = b"".join(record(tag, SIZES.get(tag, 5), bytes(SIZES.get(tag, 5))) for tag in tags)
+    fits = -(-max(64, 40 + len(body)) // 32) * 32
+    return packet(total or fits, 1, records or len(tags), body)
+
+
+def pairs():
+    """Every two known types. Eleven pairs are refused: each type with itself, 4 with 8, 8 with 4."""
+    return [of_types(one, other) for one in range(1, 10) for other in range(1, 10)]
+
+
+def free_types():
+    """Types outside 1 to 9: twice, also with bytes or remainders of a known type; beside the known types that they could be taken for."""
+    free = [0, 10, 11, 33, 36, 40, 65, 255, 256, 257, 260, 264, 65537, 2**24 + 1, 2**31 + 1, 2**32 - 1]
+    taken_for = [(33, 1), (1, 65), (257, 1), (1, 257), (65537, 1), (1, 2**24 + 1), (4, 264), (260, 8), (8, 36), (4, 40), (0, 9), (9, 10)]
+    return [of_types(tag, tag) for tag in free] + [of_types(*tags) for tags in taken_for + [(10, 11, 10, 11), (1, 10, 10, 2, 10)]]
+
+
+def type_again():
+    """A second type 1, 8 behind 4, and a third record with the type of the first: cut in the payload before the type, before, inside and
+    right behind it. The first and the third of one type, or 4 and 8, with a known and a free type between; eight types that may stand
+    together, and each type behind them; the last of 32 records."""
+    cut = [(of_types(1, 1), 64), (of_types(4, 8), 56), (of_types(1, 2, 1), 74), (of_types(8, 10, 4), 73)]
+    cuts = [whole[:place + i] for whole, place in cut for i in (-1, 0, 1, 3, 4, 7, 8)]
+    thirds = [of_types(one, between, other) for one, other in ((1, 1), (6, 6), (4, 8), (8, 4)) for between in (2, 10)]
+    eight, other_eight = [1, 2, 3, 4, 5, 6, 7, 9], [9, 8, 7, 6, 5, 3, 2, 1]
+    together = [of_types(*eight), of_types(*other_eight)]
+    behind = [of_types(*eight, tag) for tag in range(11)] + [of_types(*other_eight, tag) for tag in (4, 8, 10)]
+    return cuts + thirds + together + behind + [of_types(1, *30 * [10], last) for last in (1, 9)]
+
+
+def type_again_first():
+    """A type again that could not fit comes as 25; a fresh one there as 23. What fails before it keeps its reason: 24 of the record before,
+    22, and 23 of the type itself in its first record."""
+    unfit = [(96, 6, 6), (96, 6, 9), (128, 1, 1), (128, 1, 7), (160, 9, 9), (160, 9, 6)]
+    lengths = [packet(96, 1, 2, record(2, 3, bytes(3)) + record(2, 2)), packet(96, 1, 2, record(1, 15, bytes(15)) + record(1, 16))]
+    counts = [of_types(1, 1, records=33), of_types(1, 1, total=64, records=4)]
+    return [of_types(*tags, total=total) for total, *tags in unfit] + lengths + counts + [of_types(9, 9, total=64)]
+
+
 def vital(total, records, behind=b"", ends=None, objects=99, subframe=0):
     return packet(total, objects, records, behind, ends, subframe)
 
@@ -304,14 +359,26 @@ def four_types():
     return [whole, whole + b"\x02"] + [whole[:end] for end in cuts]
 
 
+def vital_again():
+    """Types that occur again in vital signs, where they may: next to each other and with another between; cut before, inside and behind
+    the type."""
+    signs, samples, system = record(1, 24, bytes(24)), record(3, 16, bytes(16)), record(4, 20, bytes(20))
+    next_to = [vital(104, 2, 2 * signs), vital(64, 2, record(2, 0) + record(2, 8)), vital(88, 2, 2 * samples), vital(96, 2, 2 * system)]
+    between = [vital(112, 3, signs + record(2, 0) + signs), vital(96, 3, samples + record(2, 0) + samples)]
+    return next_to + between + [next_to[3][:end] for end in (68, 71, 72, 75, 76, 95)]
+
+
 def both_dialects():
-    """A packet of both: 99 objects, subframe 0, and L, a multiple of 32, the end of the last record; and with another subframe."""
-    return [vital(64, 1, record(2, 16)), vital(128, 2, record(2, 24, bytes(24)) + record(3, 48)), vital(64, 1, record(2, 16), subframe=1)]
+    """A packet of both: 99 objects, subframe 0, and L, a multiple of 32, the end of the last record; and with another subframe. With a type
+    again it is one of vital signs alone."""
+    return [vital(64, 1, record(2, 16)), vital(128, 2, record(2, 24, bytes(24)) + record(3, 48)), vital(64, 1, record(2, 16), subframe=1),
+            vital(128, 2, record(2, 24, bytes(24)) + record(2, 48))]
 
 
 def slices():
     return (starts() + error_frames() + data_frames() + whole_frames() + empty_blocks() + edges() + refused_packets() + three_records()
-            + most_records() + vital_edges() + four_types() + both_dialects())
+            + most_records() + pairs() + free_types() + type_again() + type_again_first() + vital_edges() + four_types() + vital_again()
+            + both_dialects())
 
 
 def main():

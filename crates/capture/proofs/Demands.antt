@@ -41,13 +41,13 @@ use Rattle.sirad.proofs.TableLaws.{table-is-form}
 use Rattle.sirad.proofs.BlockLaws.{targets-by-blocks, judged-17}
 use Rattle.sirad.proofs.Theorems.{sirad-waits}
 use Rattle.mmwave.specs.declared.PacketDialect.the-variants.{MmWave, VitalSigns}
-use Rattle.mmwave.specs.Profile.{countOk, fits, possible, typeOk, lengthOk}
-use Rattle.mmwave.specs.MmWave.{mmWave, totalLegal, perObject, payloadRule}
+use Rattle.mmwave.specs.Profile.{countOk, fits, possible, fresh, typeOk, typePasses, typeReason, lengthOk, see}
+use Rattle.mmwave.specs.MmWave.{mmWave, totalLegal, perObject, payloadRule, onceBit, onceMark}
 use Rattle.mmwave.specs.VitalSigns.{vitalSigns, vitalTotal, vitalRule}
-use Rattle.mmwave.specs.Packet.{magic, entry, last, records, counted, packet}
+use Rattle.mmwave.specs.Packet.{magic, payload, last, records, counted, packet}
 use Rattle.mmwave.specs.Dialects.{profileOf, sentencesOf}
 use Rattle.mmwave.proofs.Paper.{frame-exactly-if-packet}
-use Rattle.mmwave.proofs.Judged.{waits-outside, waits-inside}
+use Rattle.mmwave.proofs.Judged.{judged-25, waits-outside, waits-inside}
 use Rattle.mmwave.proofs.VitalSays as vital
 use Rattle.mmwave.proofs.Dialects.{sound-of, says-of}
 use Rattle.units.specs.Float.{significand, scale}
@@ -57,7 +57,7 @@ use Rattle.units.proofs.Theorems as units
 use Rattle.capture.specs.Demands as say
 use Rattle.capture.specs.Demands.{StandsIn, judgedAt, EndsInsideField}
 use Rattle.capture.specs.Dialects.{dialectOf, formOf, judgeOf, startOf}
-use Rattle.capture.specs.Edges.{edges, vitalEdges, blockEdges}
+use Rattle.capture.specs.Edges.{edges, vitalEdges, blockEdges, pairsOf, onceGrid, onceEdges}
 use Rattle.capture.specs.Entries.{maxBytes, verdict, verdictNumbers, readAnswer, readLeaves}
 use Rattle.capture.specs.Feeding.{inCall, callReading, restOf, feedAnswer}
 use Rattle.capture.specs.Lines.{closedRows, emptyPart, chosen, partOf}
@@ -120,6 +120,14 @@ packet-frames d = frame-exactly-if-packet (profileOf d) (sound-of d) (sentencesO
 
 pub vital-lengths : say.VitalLengths
 vital-lengths = vital.vital-lengths
+
+pub repeated-types : say.RepeatedTypes
+unfolding formOf
+repeated-types d bs = judged-25 (profileOf d) (sound-of d) (sentencesOf d) (says-of d) bs
+
+pub vital-repeats : say.VitalRepeats
+unfolding sentencesOf
+vital-repeats bs h = let r = repeated-types VitalSigns bs .0 h in r .lacks (vital.none-excluded (r .types) _)
 
 pub whole-exactly-if-stands : say.WholeExactlyIfStands
 whole-exactly-if-stands d bs l at h k n =
@@ -440,15 +448,27 @@ accuracies-differ = units.accuracy-editions
 -- -- Values at the edges
 
 pub edges-hold : say.EdgesHold
-unfolding edges formOf profileOf toLittle fromLittle digit _>>=_ judge marker free frees countOk fits possible typeOk lengthOk
-    magic entry last records counted packet mmWave totalLegal perObject payloadRule sirad body number row run
-    characters millimetres coordinate accuracyMillimetres tiesOf decibels centidegrees significand scale nearest
+unfolding edges formOf profileOf toLittle fromLittle digit _>>=_ judge marker free frees countOk fits possible fresh typeOk typePasses
+    typeReason lengthOk see magic payload last records counted packet mmWave totalLegal perObject payloadRule onceBit onceMark
+    sirad body number row run characters millimetres coordinate accuracyMillimetres tiesOf decibels centidegrees significand scale nearest
 edges-hold = refl
 
 pub vital-edges-hold : say.VitalEdgesHold
-unfolding vitalEdges formOf profileOf toLittle fromLittle _>>=_ judge marker free frees countOk fits possible typeOk lengthOk
-    magic entry last records counted packet mmWave totalLegal perObject payloadRule vitalSigns vitalTotal vitalRule
+unfolding vitalEdges formOf profileOf toLittle fromLittle _>>=_ judge marker free frees countOk fits possible fresh typeOk typePasses
+    typeReason lengthOk see magic payload last records counted packet mmWave totalLegal perObject payloadRule onceBit onceMark
+    vitalSigns vitalTotal vitalRule
 vital-edges-hold = refl
+
+pub once-grid-holds : say.OnceGridHolds
+unfolding onceGrid pairsOf formOf profileOf toLittle fromLittle _>>=_ judge marker free frees countOk fits possible fresh typeOk typePasses
+    typeReason lengthOk see magic payload last records counted packet mmWave totalLegal perObject payloadRule onceBit onceMark
+once-grid-holds = refl
+
+pub once-edges-hold : say.OnceEdgesHold
+unfolding onceEdges formOf profileOf toLittle fromLittle _>>=_ judge marker free frees countOk fits possible fresh typeOk typePasses
+    typeReason lengthOk see magic payload last records counted packet mmWave totalLegal perObject payloadRule onceBit onceMark
+    vitalSigns vitalTotal vitalRule
+once-edges-hold = refl
 
 pub block-edges-hold : say.BlockEdgesHold
 unfolding blockEdges formOf _>>=_ judge sirad body row run lay block blocks

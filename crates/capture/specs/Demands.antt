@@ -25,14 +25,15 @@ use Rattle.reading.specs.declared.Row.{Row}
 use Rattle.sirad.specs.Sirad.{sirad}
 use Rattle.sirad.specs.Table.{TableFrame, BlockFrame, BrokenBlock}
 use Rattle.mmwave.specs.declared.PacketDialect.{PacketDialect}
+use Rattle.mmwave.specs.declared.PacketDialect.the-variants.{VitalSigns}
 use Rattle.mmwave.specs.Packet.{packet}
-use Rattle.mmwave.specs.Paper.{vitalSays, Packet, EndsInField}
+use Rattle.mmwave.specs.Paper.{vitalSays, Packet, RepeatRefused, EndsInField}
 use Rattle.mmwave.specs.Dialects.{profileOf, sentencesOf}
 use Rattle.units.specs.Float.{negative, exponent, magnitude}
 use Rattle.units.specs.Rounding.{signed, Half, Rounds}
 use Rattle.units.specs.Units.{value, Edition, tiesOf, accuracyMillimetres, RoundsMillimetres, HalfMillimetre, millimetres}
 use Rattle.capture.specs.Dialects.{dialectOf, formOf, judgeOf, longestOf}
-use Rattle.capture.specs.Edges.{Line, resultOf, edges, vitalEdges, blockEdges}
+use Rattle.capture.specs.Edges.{Line, resultOf, edges, vitalEdges, blockEdges, onceGrid, onceEdges}
 use Rattle.capture.specs.Entries.{maxBytes, verdict, verdictNumbers, readAnswer, readLeaves}
 use Rattle.capture.specs.Feeding.{callReading, restOf, accepted, feedAnswer, Feeds}
 use Rattle.capture.specs.Lines.{rowPart, emptyPart, partOf}
@@ -125,6 +126,15 @@ abbrev pub VitalLengths : Type 0
 VitalLengths =
     (bs : List ℕ) → Packet vitalSays bs
     → (length bs % 4 ≡ 0) × (length bs ≡ 44 → ⊥) × ((littleAt 4 32 bs ≡ 0) ↔ (length bs ≡ 40))
+
+-- 25, "seen at the type field" (paper 02, (vii)): exactly where the type is there, every check before it holds and a record before it
+-- excludes it
+abbrev pub RepeatedTypes : Type 0
+RepeatedTypes = (d : PacketDialect) (bs : List ℕ) → (judgeOf (Packets d) bs ≡ Bad 25) ↔ RepeatRefused (sentencesOf d) bs
+
+-- in vital signs none does: types may repeat (paper 02, (vii): "in dialect 1")
+abbrev pub VitalRepeats : Type 0
+VitalRepeats = (bs : List ℕ) → judgeOf (Packets VitalSigns) bs ≡ Bad 25 → ⊥
 
 -- a place is judged whole exactly when a frame stands there, with that frame's kind and length
 abbrev pub WholeExactlyIfStands : Type 0
@@ -375,3 +385,11 @@ VitalEdgesHold = Hold vitalEdges
 -- and for empty blocks
 abbrev pub BlockEdgesHold : Type 0
 BlockEdgesHold = Hold blockEdges
+
+-- and for each pair of known types
+abbrev pub OnceGridHolds : Type 0
+OnceGridHolds = Hold onceGrid
+
+-- and for the other numbers of each kind of record once
+abbrev pub OnceEdgesHold : Type 0
+OnceEdgesHold = Hold onceEdges

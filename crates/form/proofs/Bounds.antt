@@ -37,7 +37,7 @@ waits-short (word r t f) n at (a ∷ []) h e = let l = h .0 in omega arith
 waits-short (word r t f) n at (a ∷ b ∷ []) h e = let l = h .0 in omega arith
 waits-short (word r t f) n at (a ∷ b ∷ c ∷ []) h e = let l = h .0 in omega arith
 waits-short (word r t f) n at (a ∷ b ∷ c ∷ d ∷ bs) h e =
-    let w = passed-waits (t _) _ r e in
+    let w = passed-waits (t _) _ (r _) e in
     let l = h .0 in
     let i = waits-short (f _) (n - 4) (at + 4) bs (h .1 _ (w .0)) (w .1) in
     omega arith
@@ -66,7 +66,7 @@ bounded-then (word r t f) h n m b c =
     (omega arith, λ v e. rw q (bounded-then (f v) h (n - 4) m (b .1 v e) c))
 
 -- a four-byte field, and then what its value says
-pub bounded-four : (r : ℕ) (t : ℕ → Bool) (h : ℕ → Form) (n : ℕ) → ((v : ℕ) → t v ≡ true → Bounded (h v) n)
+pub bounded-four : (r : ℕ → ℕ) (t : ℕ → Bool) (h : ℕ → Form) (n : ℕ) → ((v : ℕ) → t v ≡ true → Bounded (h v) n)
     → Bounded (four r t >>= h) (4 + n)
 unfolding Bounded _>>=_
 bounded-four r t h n b = let q : 4 + n - 4 ≡ n = omega arith in (omega arith, λ v e. rw q (b v e))

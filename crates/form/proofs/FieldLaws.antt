@@ -25,7 +25,7 @@ Taken t at bs = (at + 4 ≤ length bs) × (t (littleAt 4 at bs) ≡ true)
 abbrev pub NotTaken : (ℕ → Bool) → ℕ → List ℕ → Type 0
 NotTaken t at bs = (at + 4 ≤ length bs) × (t (littleAt 4 at bs) ≡ false)
 
-module _ (r : ℕ) (t : ℕ → Bool) (next : ℕ → Form) (at : ℕ) (bs : List ℕ) where
+module _ (r : ℕ → ℕ) (t : ℕ → Bool) (next : ℕ → Form) (at : ℕ) (bs : List ℕ) where
   -- behind a field that passes the rest is judged
   pub field-on : Taken t at bs → judgeAt (four r t >>= next) at bs ≡ judgeAt (next (littleAt 4 at bs)) (at + 4) bs
   field-on k = go-on (four r t) next at bs (four-whole r t at bs (k .0) (k .1)) refl
@@ -42,7 +42,7 @@ module _ (r : ℕ) (t : ℕ → Bool) (next : ℕ → Form) (at : ℕ) (bs : Lis
 
   -- a refusal is the field's, or the field was taken and the rest is refused
   pub field-refused : (q : ℕ) → judgeAt (four r t >>= next) at bs ≡ Bad q
-      → ((q ≡ r) × NotTaken t at bs) ⊎ (Taken t at bs × (judgeAt (next (littleAt 4 at bs)) (at + 4) bs ≡ Bad q))
+      → ((q ≡ r (littleAt 4 at bs)) × NotTaken t at bs) ⊎ (Taken t at bs × (judgeAt (next (littleAt 4 at bs)) (at + 4) bs ≡ Bad q))
   field-refused q w = either (seq-refused (four r t) next at bs q w)
       (λ h. let f = four-refused r t at bs q h in inl (f .0, (f .1, f .2)))
       (λ g. let f = taken (g .0) (g .1) (g .2) in inr (f .0, rw (f .1, f .2) at (g .3)))

@@ -11,7 +11,7 @@ use Rattle.digits.proofs.Lists.{drop-one, drop-four}
 use Rattle.digits.specs.LittleEndian.{littleAt}
 use Rattle.form.specs.declared.Judgement.the-variants.{Whole, Bad}
 use Rattle.form.specs.Form.{Form, whole, byte, word, _>>=_, judge, judgeAt, Inside}
-use Rattle.form.specs.Pieces.{any, four, marker, free, frees, Cut}
+use Rattle.form.specs.Pieces.{any, always, four, marker, free, frees, Cut}
 use Rattle.form.proofs.PieceLaws.{byte-step, byte-ends, word-step, word-ends}
 use Rattle.form.proofs.Theorems.{not-both}
 
@@ -35,17 +35,17 @@ byte-out : (r : ℕ) (t : ℕ → Bool) (f : ℕ → Form) (at : ℕ) (bs : List
 unfolding Inside
 byte-out r t f at bs h i = rw (drop-of-length-le bs {i = at} h) at i
 
-word-in : (r : ℕ) (t : ℕ → Bool) (f : ℕ → Form) (at : ℕ) (bs : List ℕ) → at + 4 ≤ length bs → InsideAt (word r t f) at bs
+word-in : (r : ℕ → ℕ) (t : ℕ → Bool) (f : ℕ → Form) (at : ℕ) (bs : List ℕ) → at + 4 ≤ length bs → InsideAt (word r t f) at bs
     → (t (littleAt 4 at bs) ≡ true) × InsideAt (f (littleAt 4 at bs)) (at + 4) bs
 unfolding Inside
 word-in r t f at bs h i = rw (drop-four bs at h) (rw (drop-four bs at h) at i)
 
-in-word : (r : ℕ) (t : ℕ → Bool) (f : ℕ → Form) (at : ℕ) (bs : List ℕ) → at + 4 ≤ length bs
+in-word : (r : ℕ → ℕ) (t : ℕ → Bool) (f : ℕ → Form) (at : ℕ) (bs : List ℕ) → at + 4 ≤ length bs
     → (t (littleAt 4 at bs) ≡ true) × InsideAt (f (littleAt 4 at bs)) (at + 4) bs → InsideAt (word r t f) at bs
 unfolding Inside
 in-word r t f at bs h i = rw (drop-four bs at h) (rw (drop-four bs at h) at i)
 
-short-in : (r : ℕ) (t : ℕ → Bool) (f : ℕ → Form) (xs : List ℕ) → 0 < length xs → length xs < 4 → Inside (word r t f) xs
+short-in : (r : ℕ → ℕ) (t : ℕ → Bool) (f : ℕ → Form) (xs : List ℕ) → 0 < length xs → length xs < 4 → Inside (word r t f) xs
 unfolding Inside
 short-in r t f [] h l = absurd (omega arith)
 short-in r t f (a ∷ []) h l = tt
@@ -53,16 +53,16 @@ short-in r t f (a ∷ b ∷ []) h l = tt
 short-in r t f (a ∷ b ∷ c ∷ []) h l = tt
 short-in r t f (a ∷ b ∷ c ∷ d ∷ xs) h l = absurd (omega arith)
 
-in-short : (r : ℕ) (t : ℕ → Bool) (f : ℕ → Form) (xs : List ℕ) → Inside (word r t f) xs → 0 < length xs
+in-short : (r : ℕ → ℕ) (t : ℕ → Bool) (f : ℕ → Form) (xs : List ℕ) → Inside (word r t f) xs → 0 < length xs
 unfolding Inside
 in-short r t f [] i = absurd i
 in-short r t f (a ∷ xs) i = omega arith
 
 -- bytes that end inside the field at the offset itself
-pub in-cut : (r : ℕ) (t : ℕ → Bool) (f : ℕ → Form) (at : ℕ) (bs : List ℕ) → Cut at bs → InsideAt (word r t f) at bs
+pub in-cut : (r : ℕ → ℕ) (t : ℕ → Bool) (f : ℕ → Form) (at : ℕ) (bs : List ℕ) → Cut at bs → InsideAt (word r t f) at bs
 in-cut r t f at bs c = short-in r t f (drop at bs) (simp length-drop (omega (arith, c .0))) (simp length-drop (omega (arith, c .1)))
 
-cut-in : (r : ℕ) (t : ℕ → Bool) (f : ℕ → Form) (at : ℕ) (bs : List ℕ) → length bs < at + 4 → InsideAt (word r t f) at bs → Cut at bs
+cut-in : (r : ℕ → ℕ) (t : ℕ → Bool) (f : ℕ → Form) (at : ℕ) (bs : List ℕ) → length bs < at + 4 → InsideAt (word r t f) at bs → Cut at bs
 cut-in r t f at bs h i = (omega (arith, simp length-drop at (in-short r t f (drop at bs) i)), h)
 
 -- -- Two pieces
@@ -142,7 +142,8 @@ inside-then (byte r t f) h at bs u d w i = go (decLt at (length bs)) (λ g. insi
     go (no n) s = not-both (byte-ends r t f at bs (omega arith)) w
 inside-then (word r t f) h at bs u d w i = go (decLe (at + 4) (length bs)) (λ g. inside-then (f (littleAt 4 at bs)) h (at + 4) bs u d g i)
   where
-    on : (x : Bool) → t (littleAt 4 at bs) ≡ x → cond x (judgeAt (f (littleAt 4 at bs)) (at + 4) bs) (Bad r) ≡ Whole u d
+    on : (x : Bool) → t (littleAt 4 at bs) ≡ x
+        → cond x (judgeAt (f (littleAt 4 at bs)) (at + 4) bs) (Bad (r (littleAt 4 at bs))) ≡ Whole u d
         → (t (littleAt 4 at bs) ≡ true) × (judgeAt (f (littleAt 4 at bs)) (at + 4) bs ≡ Whole u d)
     on true a j = (a, j)
     on false a j = let z : _≡_ {A = ℕ} 0 1 = cc in absurd (omega arith)
@@ -156,7 +157,7 @@ inside-then (word r t f) h at bs u d w i = go (decLe (at + 4) (length bs)) (λ g
 -- -- The pieces
 
 -- inside a field with a test: its own bytes are cut
-pub four-inside : (r : ℕ) (t : ℕ → Bool) (at : ℕ) (bs : List ℕ) → InsideAt (four r t) at bs → Cut at bs
+pub four-inside : (r : ℕ → ℕ) (t : ℕ → Bool) (at : ℕ) (bs : List ℕ) → InsideAt (four r t) at bs → Cut at bs
 unfolding Inside
 four-inside r t at bs i = go (decLe (at + 4) (length bs))
   where
@@ -165,7 +166,7 @@ four-inside r t at bs i = go (decLe (at + 4) (length bs))
     go (no n) = cut-in r t whole at bs (omega arith) i
 
 -- inside the first of two pieces, where that is a field
-pub four-first : (r : ℕ) (t : ℕ → Bool) (h : ℕ → Form) (at : ℕ) (bs : List ℕ) → Cut at bs → InsideAt (four r t >>= h) at bs
+pub four-first : (r : ℕ → ℕ) (t : ℕ → Bool) (h : ℕ → Form) (at : ℕ) (bs : List ℕ) → Cut at bs → InsideAt (four r t >>= h) at bs
 unfolding _>>=_
 four-first r t h at bs c = in-cut r t (λ v. whole v >>= h) at bs c
 
@@ -177,17 +178,18 @@ frees-inside (suc n) at bs i = go (decLe (at + 4) (length bs)) (frees-inside n (
   where
     go : Dec (at + 4 ≤ length bs) → (InsideAt (frees n) (at + 4) bs → (i : ℕ) × (i < n) × Cut (at + 4 + 4 * i) bs)
         → (i : ℕ) × (i < suc n) × Cut (at + 4 * i) bs
-    go (yes l) s = let g = s (word-in 0 any (λ _. frees n) at bs l i .1) in
+    go (yes l) s = let g = s (word-in (always 0) any (λ _. frees n) at bs l i .1) in
         (suc (g .0), omega (arith, g .1), (omega (arith, g .2 .0), omega (arith, g .2 .1)))
-    go (no m) s = let c = cut-in 0 any (λ _. frees n) at bs (omega arith) i in (0, omega arith, (omega (arith, c .0), omega (arith, c .1)))
+    go (no m) s = let c = cut-in (always 0) any (λ _. frees n) at bs (omega arith) i in
+        (0, omega arith, (omega (arith, c .0), omega (arith, c .1)))
 
 -- the bytes of one of n free fields are cut: inside them and all that they begin
 pub frees-first : (n : ℕ) (h : ℕ → Form) (at : ℕ) (bs : List ℕ) (i : ℕ) → i < n → Cut (at + 4 * i) bs → InsideAt (frees n >>= h) at bs
 unfolding frees _>>=_
 frees-first zero h at bs i l c = absurd (omega arith)
-frees-first (suc n) h at bs zero l c = in-cut 0 any (λ _. frees n >>= h) at bs (omega (arith, c .0), omega (arith, c .1))
+frees-first (suc n) h at bs zero l c = in-cut (always 0) any (λ _. frees n >>= h) at bs (omega (arith, c .0), omega (arith, c .1))
 frees-first (suc n) h at bs (suc i) l c =
-    in-word 0 any (λ _. frees n >>= h) at bs (omega (arith, c .0))
+    in-word (always 0) any (λ _. frees n >>= h) at bs (omega (arith, c .0))
     (refl, frees-first n h (at + 4) bs i (omega arith) (omega (arith, c .0), omega (arith, c .1)))
 
 free-out : (n : ℕ) (xs : List ℕ) → Inside (free n) xs → ⊥

@@ -12,8 +12,8 @@ use Rattle.form.specs.Pieces.{four, marker, free, frees}
 -- -- Live
 
 -- a four-byte field with a test that some number passes
-pub live-four : (r : ℕ) (t : ℕ → Bool) (h : ℕ → Form) (v : ℕ) → v < 2 ^ 32 → t v ≡ true → ((v : ℕ) → v < 2 ^ 32 → t v ≡ true → Live (h v))
-    → Live (four r t >>= h)
+pub live-four : (r : ℕ → ℕ) (t : ℕ → Bool) (h : ℕ → Form) (v : ℕ) → v < 2 ^ 32 → t v ≡ true
+    → ((v : ℕ) → v < 2 ^ 32 → t v ≡ true → Live (h v)) → Live (four r t >>= h)
 unfolding Live _>>=_
 live-four r t h v s a l = ((v, s, a), l)
 

@@ -17,7 +17,7 @@ use Rattle.form.specs.declared.Judgement.{Judgement}
 use Rattle.form.specs.declared.Judgement.the-variants.{Whole, Bad, Waiting}
 use Rattle.form.specs.Form.{Form, whole, byte, word, _>>=_, judge, judgeAt}
 use Rattle.form.specs.Numbers.{numbersOf, Judges}
-use Rattle.form.specs.Pieces.{any, four, marker, free, frees}
+use Rattle.form.specs.Pieces.{any, always, four, marker, free, frees}
 use Rattle.form.proofs.Judgement.{the-type}
 
 -- the promise of a judgement is its equation
@@ -38,12 +38,12 @@ unfolding judge
 byte-ends r t f at bs h = rw (drop-of-length-le bs {i = at} h)
 
 -- a four-byte node whose bytes are there
-pub word-step : (r : ℕ) (t : ℕ → Bool) (f : ℕ → Form) (at : ℕ) (bs : List ℕ) → at + 4 ≤ length bs
-    → judgeAt (word r t f) at bs ≡ cond (t (littleAt 4 at bs)) (judgeAt (f (littleAt 4 at bs)) (at + 4) bs) (Bad r)
+pub word-step : (r : ℕ → ℕ) (t : ℕ → Bool) (f : ℕ → Form) (at : ℕ) (bs : List ℕ) → at + 4 ≤ length bs
+    → judgeAt (word r t f) at bs ≡ cond (t (littleAt 4 at bs)) (judgeAt (f (littleAt 4 at bs)) (at + 4) bs) (Bad (r (littleAt 4 at bs)))
 unfolding judge
 word-step r t f at bs h = rw (drop-four bs at h)
 
-word-short : (r : ℕ) (t : ℕ → Bool) (f : ℕ → Form) (at : ℕ) (xs : List ℕ) → length xs < 4 → judge (word r t f) at xs ≡ Waiting
+word-short : (r : ℕ → ℕ) (t : ℕ → Bool) (f : ℕ → Form) (at : ℕ) (xs : List ℕ) → length xs < 4 → judge (word r t f) at xs ≡ Waiting
 unfolding judge
 word-short r t f at [] h = refl
 word-short r t f at (a ∷ []) h = refl
@@ -52,7 +52,7 @@ word-short r t f at (a ∷ b ∷ c ∷ []) h = refl
 word-short r t f at (a ∷ b ∷ c ∷ d ∷ xs) h = absurd (omega arith)
 
 -- a four-byte node whose fourth byte is not there
-pub word-ends : (r : ℕ) (t : ℕ → Bool) (f : ℕ → Form) (at : ℕ) (bs : List ℕ) → length bs < at + 4 → judgeAt (word r t f) at bs ≡ Waiting
+pub word-ends : (r : ℕ → ℕ) (t : ℕ → Bool) (f : ℕ → Form) (at : ℕ) (bs : List ℕ) → length bs < at + 4 → judgeAt (word r t f) at bs ≡ Waiting
 word-ends r t f at bs h = word-short r t f at (drop at bs) (simp length-drop (omega arith))
 
 -- -- A piece, and then another
@@ -86,14 +86,15 @@ module _ (r : ℕ) (t : ℕ → Bool) (f : ℕ → Form) (h : ℕ → Form) (at 
           byte-ends r t (λ b. f b >>= h) at bs (omega arith)
           ∙ sym (ap (λ (j : Judgement). after j (λ v e. judgeAt (h v) e bs)) (byte-ends r t f at bs (omega arith)))
 
+module _ (r : ℕ → ℕ) (t : ℕ → Bool) (f : ℕ → Form) (h : ℕ → Form) (at : ℕ) (bs : List ℕ) where
   seq-word : Seq (f (littleAt 4 at bs)) h (at + 4) bs → Seq (word r t f) h at bs
   unfolding Seq _>>=_
   seq-word s = go (decLe (at + 4) (length bs))
     where
       go : Dec (at + 4 ≤ length bs) → judgeAt (word r t f >>= h) at bs ≡ after (judgeAt (word r t f) at bs) (λ v e. judgeAt (h v) e bs)
       go (yes l) = word-step r t (λ b. f b >>= h) at bs l
-          ∙ after-cond (t (littleAt 4 at bs)) (judgeAt (f (littleAt 4 at bs)) (at + 4) bs) r (λ v e. judgeAt (h v) e bs)
-          (judgeAt (f (littleAt 4 at bs) >>= h) (at + 4) bs) s
+          ∙ after-cond (t (littleAt 4 at bs)) (judgeAt (f (littleAt 4 at bs)) (at + 4) bs) (r (littleAt 4 at bs))
+          (λ v e. judgeAt (h v) e bs) (judgeAt (f (littleAt 4 at bs) >>= h) (at + 4) bs) s
           ∙ sym (ap (λ (j : Judgement). after j (λ v e. judgeAt (h v) e bs)) (word-step r t f at bs l))
       go (no n) =
           word-ends r t (λ b. f b >>= h) at bs (omega arith)
@@ -141,18 +142,18 @@ stop p h at bs a = sym (seq p h at bs ∙ ap (λ (j : Judgement). after j (λ v 
 -- -- A four-byte field
 
 -- a field whose fourth byte is not there waits
-pub four-waits : (r : ℕ) (t : ℕ → Bool) (at : ℕ) (bs : List ℕ) → length bs < at + 4 → Waiting ≡ judgeAt (four r t) at bs
+pub four-waits : (r : ℕ → ℕ) (t : ℕ → Bool) (at : ℕ) (bs : List ℕ) → length bs < at + 4 → Waiting ≡ judgeAt (four r t) at bs
 four-waits r t at bs h = sym (word-ends r t whole at bs h)
 
 -- a field that is there and passes is whole
-pub four-whole : (r : ℕ) (t : ℕ → Bool) (at : ℕ) (bs : List ℕ) → at + 4 ≤ length bs → t (littleAt 4 at bs) ≡ true
+pub four-whole : (r : ℕ → ℕ) (t : ℕ → Bool) (at : ℕ) (bs : List ℕ) → at + 4 ≤ length bs → t (littleAt 4 at bs) ≡ true
     → Whole (littleAt 4 at bs) (at + 4) ≡ judgeAt (four r t) at bs
 unfolding judge
 four-whole r t at bs h a = sym (word-step r t whole at bs h ∙ rw a)
 
 -- a field that is there and does not pass is bad
-pub four-bad : (r : ℕ) (t : ℕ → Bool) (at : ℕ) (bs : List ℕ) → at + 4 ≤ length bs → t (littleAt 4 at bs) ≡ false
-    → Bad r ≡ judgeAt (four r t) at bs
+pub four-bad : (r : ℕ → ℕ) (t : ℕ → Bool) (at : ℕ) (bs : List ℕ) → at + 4 ≤ length bs → t (littleAt 4 at bs) ≡ false
+    → Bad (r (littleAt 4 at bs)) ≡ judgeAt (four r t) at bs
 unfolding judge
 four-bad r t at bs h a = sym (word-step r t whole at bs h ∙ rw a)
 
@@ -164,41 +165,42 @@ little-there at bs h = rw (drop-four bs at h)
 -- the free field as its bytes give it
 pub number-there : (at : ℕ) (bs : List ℕ) {v : ℕ} → at + 4 ≤ length bs
     → v ≡ fromLittle (getD bs at 0 ∷ getD bs (at + 1) 0 ∷ getD bs (at + 2) 0 ∷ getD bs (at + 3) 0 ∷ [])
-    → Whole v (at + 4) ≡ judgeAt (four 0 any) at bs
-number-there at bs h e = ap (λ (v : ℕ). Whole v (at + 4)) (e ∙ little-there at bs h) ∙ four-whole 0 any at bs h refl
+    → Whole v (at + 4) ≡ judgeAt (four (always 0) any) at bs
+number-there at bs h e = ap (λ (v : ℕ). Whole v (at + 4)) (e ∙ little-there at bs h) ∙ four-whole (always 0) any at bs h refl
 
 -- a field with a test is the free field, and then the test
-pub tested : (r : ℕ) (t : ℕ → Bool) (at : ℕ) (bs : List ℕ)
-    → judgeAt (four r t) at bs ≡ after (judgeAt (four 0 any) at bs) (λ v e. cond (t v) (Whole v e) (Bad r))
+pub tested : (r : ℕ → ℕ) (t : ℕ → Bool) (at : ℕ) (bs : List ℕ)
+    → judgeAt (four r t) at bs ≡ after (judgeAt (four (always 0) any) at bs) (λ v e. cond (t v) (Whole v e) (Bad (r v)))
 unfolding judge
 tested r t at bs = go (decLe (at + 4) (length bs))
   where
-    go : Dec (at + 4 ≤ length bs) → judgeAt (four r t) at bs ≡ after (judgeAt (four 0 any) at bs) (λ v e. cond (t v) (Whole v e) (Bad r))
+    go : Dec (at + 4 ≤ length bs)
+        → judgeAt (four r t) at bs ≡ after (judgeAt (four (always 0) any) at bs) (λ v e. cond (t v) (Whole v e) (Bad (r v)))
     go (yes l) =
-        word-step r t whole at bs l ∙ ap (λ (j : Judgement). after j (λ v e. cond (t v) (Whole v e) (Bad r)))
-        (four-whole 0 any at bs l refl)
+        word-step r t whole at bs l ∙ ap (λ (j : Judgement). after j (λ v e. cond (t v) (Whole v e) (Bad (r v))))
+        (four-whole (always 0) any at bs l refl)
     go (no n) =
         word-ends r t whole at bs (omega arith)
-        ∙ ap (λ (j : Judgement). after j (λ v e. cond (t v) (Whole v e) (Bad r))) (four-waits 0 any at bs (omega arith))
+        ∙ ap (λ (j : Judgement). after j (λ v e. cond (t v) (Whole v e) (Bad (r v)))) (four-waits (always 0) any at bs (omega arith))
 
 -- the field's bytes are not there
-pub unread : (r : ℕ) (t : ℕ → Bool) (at : ℕ) (bs : List ℕ) {j : Judgement} → j ≡ judgeAt (four 0 any) at bs → Halted j
+pub unread : (r : ℕ → ℕ) (t : ℕ → Bool) (at : ℕ) (bs : List ℕ) {j : Judgement} → j ≡ judgeAt (four (always 0) any) at bs → Halted j
     → j ≡ judgeAt (four r t) at bs
 unread r t at bs {j} a o =
-    sym (tested r t at bs ∙ ap (λ (j : Judgement). after j (λ v e. cond (t v) (Whole v e) (Bad r))) (sym a)
-    ∙ halted j (λ v e. cond (t v) (Whole v e) (Bad r)) o)
+    sym (tested r t at bs ∙ ap (λ (j : Judgement). after j (λ v e. cond (t v) (Whole v e) (Bad (r v)))) (sym a)
+    ∙ halted j (λ v e. cond (t v) (Whole v e) (Bad (r v))) o)
 
-module _ (r : ℕ) (t : ℕ → Bool) (at : ℕ) (bs : List ℕ) {j : Judgement} {v e : ℕ} (a : j ≡ judgeAt (four 0 any) at bs)
+module _ (r : ℕ → ℕ) (t : ℕ → Bool) (at : ℕ) (bs : List ℕ) {j : Judgement} {v e : ℕ} (a : j ≡ judgeAt (four (always 0) any) at bs)
     (b : j ≡ Whole v e) where
-  read-then : judgeAt (four r t) at bs ≡ cond (t v) (Whole v e) (Bad r)
-  read-then = tested r t at bs ∙ ap (λ (j : Judgement). after j (λ v e. cond (t v) (Whole v e) (Bad r))) (sym a ∙ b)
+  read-then : judgeAt (four r t) at bs ≡ cond (t v) (Whole v e) (Bad (r v))
+  read-then = tested r t at bs ∙ ap (λ (j : Judgement). after j (λ v e. cond (t v) (Whole v e) (Bad (r v)))) (sym a ∙ b)
 
   -- the field is there and passes
   pub taken : t v ≡ true → Whole v e ≡ judgeAt (four r t) at bs
   taken h = sym (read-then ∙ rw h)
 
   -- the field is there and is refused
-  pub refused : t v ≡ false → Bad r ≡ judgeAt (four r t) at bs
+  pub refused : t v ≡ false → Bad (r v) ≡ judgeAt (four r t) at bs
   refused h = sym (read-then ∙ rw h)
 
 -- -- Free bytes
@@ -291,12 +293,12 @@ seq-inverse p h at bs v e w = go (judgeAt p at bs) refl (sym (seq p h at bs) ∙
     go Waiting a b = let z : _≡_ {A = ℕ} 0 1 = cc in absurd (omega arith)
 
 -- a four-byte field: its bytes are there, its number passes
-pub four-inverse : (r : ℕ) (t : ℕ → Bool) (at : ℕ) (bs : List ℕ) (v e : ℕ) → judgeAt (four r t) at bs ≡ Whole v e
+pub four-inverse : (r : ℕ → ℕ) (t : ℕ → Bool) (at : ℕ) (bs : List ℕ) (v e : ℕ) → judgeAt (four r t) at bs ≡ Whole v e
     → (v ≡ littleAt 4 at bs) × (e ≡ at + 4) × (t v ≡ true) × (at + 4 ≤ length bs)
 unfolding judge
 four-inverse r t at bs v e w = go (decLe (at + 4) (length bs))
   where
-    passed : (u : Bool) → t (littleAt 4 at bs) ≡ u → cond u (Whole (littleAt 4 at bs) (at + 4)) (Bad r) ≡ Whole v e
+    passed : (u : Bool) → t (littleAt 4 at bs) ≡ u → cond u (Whole (littleAt 4 at bs) (at + 4)) (Bad (r (littleAt 4 at bs))) ≡ Whole v e
         → (v ≡ littleAt 4 at bs) × (e ≡ at + 4) × (t v ≡ true)
     passed true a b = let x : v ≡ littleAt 4 at bs = cc in (x, cc, ap t x ∙ a)
     passed false a b = let z : _≡_ {A = ℕ} 0 1 = cc in absurd (omega arith)
@@ -402,8 +404,6 @@ judge-moved (word r t f) d at [] = refl
 judge-moved (word r t f) d at (a ∷ []) = refl
 judge-moved (word r t f) d at (a ∷ b ∷ []) = refl
 judge-moved (word r t f) d at (a ∷ b ∷ c ∷ []) = refl
-judge-moved (word r t f) d at (a ∷ b ∷ c ∷ e ∷ xs) =
-    moved-cond (t (fromLittle (a ∷ b ∷ c ∷ e ∷ []))) d r (judge (f (fromLittle (a ∷ b ∷ c ∷ e ∷ []))) (at + 4) xs)
-    (judge (f (fromLittle (a ∷ b ∷ c ∷ e ∷ []))) (d + at + 4) xs)
-    (ap (λ (i : ℕ). judge (f (fromLittle (a ∷ b ∷ c ∷ e ∷ []))) i xs) (omega arith)
-    ∙ judge-moved (f (fromLittle (a ∷ b ∷ c ∷ e ∷ []))) d (at + 4) xs)
+judge-moved (word r t f) d at (a ∷ b ∷ c ∷ e ∷ xs) = let v = fromLittle (a ∷ b ∷ c ∷ e ∷ []) in
+    moved-cond (t v) d (r v) (judge (f v) (at + 4) xs) (judge (f v) (d + at + 4) xs)
+    (ap (λ (i : ℕ). judge (f v) i xs) (omega arith) ∙ judge-moved (f v) d (at + 4) xs)

@@ -36,23 +36,23 @@ refuses-first p h at bs r w = seq p h at bs ∙ ap (λ (j : Judgement). after j 
 -- -- A four-byte field
 
 -- its bytes are there, and its number is refused
-pub four-refused : (r : ℕ) (t : ℕ → Bool) (at : ℕ) (bs : List ℕ) (q : ℕ) → judgeAt (four r t) at bs ≡ Bad q
-    → (q ≡ r) × (at + 4 ≤ length bs) × (t (littleAt 4 at bs) ≡ false)
+pub four-refused : (r : ℕ → ℕ) (t : ℕ → Bool) (at : ℕ) (bs : List ℕ) (q : ℕ) → judgeAt (four r t) at bs ≡ Bad q
+    → (q ≡ r (littleAt 4 at bs)) × (at + 4 ≤ length bs) × (t (littleAt 4 at bs) ≡ false)
 unfolding judge
 four-refused r t at bs q w = go (decLe (at + 4) (length bs))
   where
-    tested : (u : Bool) → t (littleAt 4 at bs) ≡ u → cond u (Whole (littleAt 4 at bs) (at + 4)) (Bad r) ≡ Bad q
-        → (q ≡ r) × (t (littleAt 4 at bs) ≡ false)
+    tested : (u : Bool) → t (littleAt 4 at bs) ≡ u → cond u (Whole (littleAt 4 at bs) (at + 4)) (Bad (r (littleAt 4 at bs))) ≡ Bad q
+        → (q ≡ r (littleAt 4 at bs)) × (t (littleAt 4 at bs) ≡ false)
     tested true a b = let z : _≡_ {A = ℕ} 0 1 = cc in absurd (omega arith)
     tested false a b = (cc, a)
 
-    go : Dec (at + 4 ≤ length bs) → (q ≡ r) × (at + 4 ≤ length bs) × (t (littleAt 4 at bs) ≡ false)
+    go : Dec (at + 4 ≤ length bs) → (q ≡ r (littleAt 4 at bs)) × (at + 4 ≤ length bs) × (t (littleAt 4 at bs) ≡ false)
     go (yes l) = let g = tested (t (littleAt 4 at bs)) refl (sym (word-step r t whole at bs l) ∙ w) in (g .0, l, g .1)
     go (no n) = let h : Waiting ≡ Bad q = four-waits r t at bs (omega arith) ∙ w in let z : _≡_ {A = ℕ} 0 1 = cc in absurd (omega arith)
 
 -- a number that is there and does not pass
-pub four-refuses : (r : ℕ) (t : ℕ → Bool) (at : ℕ) (bs : List ℕ) → at + 4 ≤ length bs → t (littleAt 4 at bs) ≡ false
-    → judgeAt (four r t) at bs ≡ Bad r
+pub four-refuses : (r : ℕ → ℕ) (t : ℕ → Bool) (at : ℕ) (bs : List ℕ) → at + 4 ≤ length bs → t (littleAt 4 at bs) ≡ false
+    → judgeAt (four r t) at bs ≡ Bad (r (littleAt 4 at bs))
 unfolding judge
 four-refuses r t at bs h a = word-step r t whole at bs h ∙ rw a
 

@@ -66,7 +66,7 @@ whole-read (word r t f) k at e (a ∷ b ∷ []) h = not-both refl h
 whole-read (word r t f) k at e (a ∷ b ∷ c ∷ []) h = not-both refl h
 whole-read (word r t f) k at e (a ∷ b ∷ c ∷ d ∷ xs) h = go (t (joined a b c d)) refl h (whole-read (f (joined a b c d)) k (at + 4) e xs)
   where
-    go : (u : Bool) → t (joined a b c d) ≡ u → cond u (judge (f (joined a b c d)) (at + 4) xs) (Bad r) ≡ Whole k e
+    go : (u : Bool) → t (joined a b c d) ≡ u → cond u (judge (f (joined a b c d)) (at + 4) xs) (Bad (r (joined a b c d))) ≡ Whole k e
         → (judge (f (joined a b c d)) (at + 4) xs ≡ Whole k e → Read (f (joined a b c d)) k (at + 4) e xs)
         → Read (word r t f) k at e (a ∷ b ∷ c ∷ d ∷ xs)
     go true i j s = let g = s j in
@@ -145,8 +145,8 @@ judgement-kept (word r t f) at (a ∷ []) ys n = absurd (n refl)
 judgement-kept (word r t f) at (a ∷ b ∷ []) ys n = absurd (n refl)
 judgement-kept (word r t f) at (a ∷ b ∷ c ∷ []) ys n = absurd (n refl)
 judgement-kept (word r t f) at (a ∷ b ∷ c ∷ d ∷ xs) ys n =
-    kept-cond (t (joined a b c d)) r (judge (f (joined a b c d)) (at + 4) xs) (judge (f (joined a b c d)) (at + 4) (xs ++ ys))
-    (judgement-kept (f (joined a b c d)) (at + 4) xs ys) n
+    kept-cond (t (joined a b c d)) (r (joined a b c d)) (judge (f (joined a b c d)) (at + 4) xs)
+    (judge (f (joined a b c d)) (at + 4) (xs ++ ys)) (judgement-kept (f (joined a b c d)) (at + 4) xs ys) n
 
 -- -- No further than the frame, or the refused byte
 
@@ -211,7 +211,7 @@ bad-looks-no-further (word r t f) at q (a ∷ b ∷ c ∷ d ∷ xs) h =
     only (suc (suc (suc zero))) l = refl
     only (suc (suc (suc (suc j)))) l = absurd (omega arith)
 
-    go : (u : Bool) → t (joined a b c d) ≡ u → cond u (judge (f (joined a b c d)) (at + 4) xs) (Bad r) ≡ Bad q
+    go : (u : Bool) → t (joined a b c d) ≡ u → cond u (judge (f (joined a b c d)) (at + 4) xs) (Bad (r (joined a b c d))) ≡ Bad q
         → (judge (f (joined a b c d)) (at + 4) xs ≡ Bad q → Refusal (f (joined a b c d)) (at + 4) q xs)
         → Refusal (word r t f) at q (a ∷ b ∷ c ∷ d ∷ xs)
     go true i j s = let g = s j in
@@ -332,7 +332,7 @@ waiting-completes (word r t f) at (a ∷ b ∷ c ∷ d ∷ xs) l s o h =
     (λ e. waiting-completes (f (joined a b c d)) (at + 4) xs
     (l .1 (joined a b c d) (joined-small a b c d (s .0) (s .1 .0) (s .1 .1 .0) (s .1 .1 .1 .0)) e) (s .1 .1 .1 .1) (λ i. o (e, i)))
   where
-    go : (u : Bool) → t (joined a b c d) ≡ u → cond u (judge (f (joined a b c d)) (at + 4) xs) (Bad r) ≡ Waiting
+    go : (u : Bool) → t (joined a b c d) ≡ u → cond u (judge (f (joined a b c d)) (at + 4) xs) (Bad (r (joined a b c d))) ≡ Waiting
         → (t (joined a b c d) ≡ true → judge (f (joined a b c d)) (at + 4) xs ≡ Waiting → Completion (f (joined a b c d)) xs)
         → Completion (word r t f) (a ∷ b ∷ c ∷ d ∷ xs)
     go true e j c = let g = c e j in record { more = g .more; more-bytes = g .more-bytes; kind = g .kind; frame = (e, g .frame) }

@@ -12,11 +12,12 @@ use Rattle.form.specs.declared.Judgement.the-variants.{Whole, Bad, Waiti
 -- -- The grammar
 
 -- what the bytes from a place may be: nothing more (the frame's kind; inside a grammar, a piece's value), one byte, or a four-byte field.
--- A node has the reason if it is refused, the test of the byte or the number, and what follows it
+-- A node has the reason if it is refused, the test of the byte or the number, and what follows it; a field's reason may depend on its
+-- number
 pub data Form : Type 0 where
   whole : ℕ → Form
   byte : ℕ → (ℕ → Bool) → (ℕ → Form) → Form
-  word : ℕ → (ℕ → Bool) → (ℕ → Form) → Form
+  word : (ℕ → ℕ) → (ℕ → Bool) → (ℕ → Form) → Form
 
 infixl 10 _>>=_
 -- a piece, and then what its value says
@@ -47,7 +48,7 @@ judge (word r t f) at [] = Waiting
 judge (word r t f) at (a ∷ []) = Waiting
 judge (word r t f) at (a ∷ b ∷ []) = Waiting
 judge (word r t f) at (a ∷ b ∷ c ∷ []) = Waiting
-judge (word r t f) at (a ∷ b ∷ c ∷ d ∷ bs) = cond (t (joined a b c d)) (judge (f (joined a b c d)) (at + 4) bs) (Bad r)
+judge (word r t f) at (a ∷ b ∷ c ∷ d ∷ bs) = cond (t (joined a b c d)) (judge (f (joined a b c d)) (at + 4) bs) (Bad (r (joined a b c d)))
 
 -- the judgement of a piece that starts at offset at of the bytes
 abbrev pub judgeAt : Form → ℕ → List ℕ → Judgement

@@ -15,8 +15,12 @@ any v = true
 abbrev pub one : ℕ → (ℕ → Bool) → Form
 one reason test = byte reason test whole
 
+-- one reason, whatever the number
+abbrev pub always : ℕ → ℕ → ℕ
+always reason v = reason
+
 -- one four-byte field that passes the test; its value is the number
-abbrev pub four : ℕ → (ℕ → Bool) → Form
+abbrev pub four : (ℕ → ℕ) → (ℕ → Bool) → Form
 four reason test = word reason test whole
 
 -- the given bytes, one by one
@@ -32,7 +36,7 @@ free (suc n) = byte 0 any (λ _. free n)
 -- n free four-byte fields
 unfoldable pub frees : ℕ → Form
 frees zero = whole 0
-frees (suc n) = word 0 any (λ _. frees n)
+frees (suc n) = word (always 0) any (λ _. frees n)
 
 -- the bytes break the given ones: one that is there is another, and those before it are as given
 unfoldable pub Broken : List ℕ → List ℕ → Type 0

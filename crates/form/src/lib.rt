@@ -1,7 +1,7 @@
 // The judgement of bytes by a grammar, and the pieces that every wire's judgement is made of.
 ghost use mathlib.Core.Path.{_≡_};
 ghost use Rattle.form.specs.Numbers.{numbersOf, Judges};
-ghost use Rattle.form.specs.Pieces.{any, four, free, frees};
+ghost use Rattle.form.specs.Pieces.{any, always, four, free, frees};
 
 // Paper 01, "Judging a place". Inside a grammar `Whole` carries a piece's value and the offset behind it.
 pub enum Judgement {
@@ -61,7 +61,7 @@ pub fn numbers_of(j: Judgement) -> JudgementNumbers
 
 // The four-byte field at offset `at`: its number and the offset behind it, or waiting for its bytes.
 pub fn number(s: &[u8], at: usize) -> Judgement
-    ensures { λ r. ⌜ Judges (four 0 any) at (now (s .entry)) r ⌝ }
+    ensures { λ r. ⌜ Judges (four (always 0) any) at (now (s .entry)) r ⌝ }
 {
     if s.len() < at {
         return Judgement::Waiting;

@@ -2,7 +2,7 @@
 -- The idea: the room that the form carries is what L leaves behind the headers of the records left.
 use mathlib.Core.Bool.{Bool, true, false}
 use mathlib.Core.Path.{_≡_, refl}
-use mathlib.Core.List.{List}
+use mathlib.Core.List.{List, [], _∷_}
 use mathlib.Core.Logic.{_↔_, _⊎_, inl, inr}
 use Prim.Native.Nat.{ℕ, suc, _+_, _-_, _*_, _≤_}
 use native.Mathlib.Omega.{arith}
@@ -14,17 +14,18 @@ use Rattle.digits.proofs.Choices.{and-left}
 use Rattle.form.specs.declared.Judgement.the-variants.{Bad, Waiting}
 use Rattle.form.specs.Form.{judge, Inside, Completable}
 use Rattle.form.specs.Pieces.{Broken}
-use Rattle.mmwave.specs.Profile.{Profile, legal, fits, typeOk, lengthOk, Sound, Fair}
+use Rattle.mmwave.specs.Profile.{Profile, legal, fits, fresh, typeOk, lengthOk, seenIn, Sound, Fair}
 use Rattle.mmwave.specs.Packet.{magic, packet}
 use Rattle.mmwave.specs.Document.{HoldsBefore, Reached, first, next, EndsInside, in-header, in-type, in-length, Refused}
-use Rattle.mmwave.specs.Document.{at-magic, at-total, at-objects, at-count, at-subframe, at-type, at-length}
-use Rattle.mmwave.specs.Paper.{Sentences, magicBytes, LengthFits, TypeFits, ChecksBefore, Passed, header, behind, TotalRefused}
-use Rattle.mmwave.specs.Paper.{ObjectsRefused, CountRefused, SubframeRefused, TypeRefused, LengthRefused, Choose, Due}
+use Rattle.mmwave.specs.Document.{at-magic, at-total, at-objects, at-count, at-subframe, at-repeat, at-type, at-length}
+use Rattle.mmwave.specs.Paper.{Sentences, magicBytes, NoneExcludes, LengthFits, TypeFits, ChecksBefore, Passed, header, behind}
+use Rattle.mmwave.specs.Paper.{TotalRefused, ObjectsRefused, CountRefused, SubframeRefused, RepeatRefused, TypeRefused}
+use Rattle.mmwave.specs.Paper.{LengthRefused, Choose, Due}
 use Rattle.mmwave.specs.Paper.{EndsInField, header-field, type-field, length-field}
 use Rattle.mmwave.proofs.RecordLaws.{count-room, passed-fits}
 use Rattle.mmwave.proofs.Sounds.{fair-start, fair-less}
 use Rattle.mmwave.proofs.Theorems.{packet-waits, packet-inside}
-use Rattle.mmwave.proofs.Paper.{Says}
+use Rattle.mmwave.proofs.Paper.{Says, fresh-exactly}
 use Rattle.mmwave.proofs.Reasons.{reason-22, count-exactly, type-exactly, length-exactly, fails-exactly}
 use Rattle.mmwave.proofs.Refusals.{bad-exactly}
 use Rattle.mmwave.proofs.Insides.{inside-exactly}
@@ -77,11 +78,11 @@ module _ (P : Profile) (S : Sound P) (W : Sentences) (says : Says P W) (bs : Lis
 
   -- -- The records
 
-  reached-room : {k p room : ℕ} → Reached P bs k p room → Roomed P bs k p room
+  reached-room : {ts : List ℕ} {k p room : ℕ} → Reached P bs ts k p room → Roomed P bs k p room
   unfolding lengthOk
   reached-room (first b h) = let t = b .total (omega arith) in let c = count-room P L K (b .count (omega arith)) in
       record { total = t; headers = c; is-room = refl; fair = fair-start P S L K t c }
-  reached-room (next {k = k} {p = p} {room = room} r t l w) =
+  reached-room (next {k = k} {p = p} {room = room} r f t l w) =
       let g = reached-room r in let m = lengthAt p in let rule = P .rule (typeAt p) N in
       let i = passed-fits P rule (suc k) room m l in
       record {
@@ -91,29 +92,33 @@ module _ (P : Profile) (S : Sound P) (W : Sentences) (says : Says P W) (bs : Lis
         fair = fair-less P S N (typeAt p) m room (g .fair) (and-left (legal rule m) (fits P (suc k) room m) l) i;
       }
 
-  type-words : (k p room : ℕ) → Roomed P bs (suc k) p room
-      → (typeOk P N (suc k) room (typeAt p) ≡ true) ↔ TypeFits W N L p k (typeAt p)
-  type-words k p room g =
-      rw (g .is-room) (type-exactly P S W says N L p k (g .total) (g .headers) (rw (g .is-room) at (g .fair)) (typeAt p))
+  fresh-words : (ts : List ℕ) (p : ℕ) → (fresh P (seenIn P ts) (typeAt p) ≡ true) ↔ NoneExcludes W ts (typeAt p)
+  fresh-words ts p = fresh-exactly P S W says ts (typeAt p)
 
-  length-words : (k p room : ℕ) → Roomed P bs (suc k) p room
+  type-words : (ts : List ℕ) (k p room : ℕ) → Roomed P bs (suc k) p room
+      → (typeOk P N (suc k) room (typeAt p) ≡ true) ↔ TypeFits W N L p ts k (typeAt p)
+  type-words ts k p room g =
+      rw (g .is-room) (type-exactly P S W says N L p ts k (g .total) (g .headers) (rw (g .is-room) at (g .fair)) (typeAt p))
+
+  length-words : (ts : List ℕ) (k p room : ℕ) → Roomed P bs (suc k) p room
       → (lengthOk P (P .rule (typeAt p) N) (suc k) room (lengthAt p) ≡ true)
-      ↔ (W .Legal N (typeAt p) (lengthAt p) × LengthFits W N L p k (lengthAt p))
-  length-words k p room g =
-      rw (g .is-room) (length-exactly P S W says N L p k (g .total) (g .headers) (rw (g .is-room) at (g .fair)) (typeAt p) (lengthAt p))
+      ↔ (W .Legal N (typeAt p) (lengthAt p) × LengthFits W N L p (typeAt p ∷ ts) k (lengthAt p))
+  length-words ts k p room g =
+      rw (g .is-room) (length-exactly P S W says N L p ts k (g .total) (g .headers) (rw (g .is-room) at (g .fair)) (typeAt p) (lengthAt p))
 
   -- where the form's checks have come to, the papers' have
-  pub passed-forth : {k p room : ℕ} → Reached P bs k p room → Passed W bs k p
+  pub passed-forth : {ts : List ℕ} {k p room : ℕ} → Reached P bs ts k p room → Passed W bs ts k p
   passed-forth (first b h) = header (checks-forth 40 b) h
-  passed-forth (next {k = k} {p = p} {room = room} r t l w) = let g = length-words k p room (reached-room r) .0 l in
-      behind {k = k} {p = p} (passed-forth r) (g .0) (g .1) w
+  passed-forth (next {ts = ts} {k = k} {p = p} {room = room} r f t l w) = let g = length-words ts k p room (reached-room r) .0 l in
+      behind {ts = ts} {k = k} {p = p} (passed-forth r) (fresh-words ts p .0 f) (g .0) (g .1) w
 
   -- where the papers' checks have come to, the form's have, with the room that L leaves
-  pub passed-back : {k p : ℕ} → Passed W bs k p → (room : ℕ) × Reached P bs k p room
+  pub passed-back : {ts : List ℕ} {k p : ℕ} → Passed W bs ts k p → (room : ℕ) × Reached P bs ts k p room
   passed-back (header b h) = (L - (40 + 8 * K), first (checks-back 40 b) h)
-  passed-back (behind {k = k} {p = p} r a b w) =
+  passed-back (behind {ts = ts} {k = k} {p = p} r f a b w) =
       let g = passed-back r in let q = reached-room (g .1) in let m = lengthAt p in
-      (g .0 - m, next {k = k} {p = p} {room = g .0} (g .1) (type-words k p (g .0) q .1 (m, a, b)) (length-words k p (g .0) q .1 (a, b)) w)
+      let type-ok = type-words ts k p (g .0) q .1 (m, a, b) in let length-ok = length-words ts k p (g .0) q .1 (a, b) in
+      (g .0 - m, next {ts = ts} {k = k} {p = p} {room = g .0} (g .1) (fresh-words ts p .1 f) type-ok length-ok w)
 
   -- -- The reasons
 
@@ -126,14 +131,18 @@ module _ (P : Profile) (S : Sound P) (W : Sentences) (says : Says P W) (bs : Lis
   subframe-fails : (P .subframe (littleAt 4 36 bs) ≡ false) ↔ (W .Subframe (littleAt 4 36 bs) → ⊥)
   subframe-fails = fails-exactly (P .subframe (littleAt 4 36 bs)) (says .subframe-says (littleAt 4 36 bs))
 
-  type-fails : (k p room : ℕ) → Roomed P bs (suc k) p room
-      → (typeOk P N (suc k) room (typeAt p) ≡ false) ↔ (TypeFits W N L p k (typeAt p) → ⊥)
-  type-fails k p room q = fails-exactly (typeOk P N (suc k) room (typeAt p)) (type-words k p room q)
+  fresh-fails : (ts : List ℕ) (p : ℕ) → (fresh P (seenIn P ts) (typeAt p) ≡ false) ↔ (NoneExcludes W ts (typeAt p) → ⊥)
+  fresh-fails ts p = fails-exactly (fresh P (seenIn P ts) (typeAt p)) (fresh-words ts p)
 
-  length-fails : (k p room : ℕ) → Roomed P bs (suc k) p room
+  type-fails : (ts : List ℕ) (k p room : ℕ) → Roomed P bs (suc k) p room
+      → (typeOk P N (suc k) room (typeAt p) ≡ false) ↔ (TypeFits W N L p ts k (typeAt p) → ⊥)
+  type-fails ts k p room q = fails-exactly (typeOk P N (suc k) room (typeAt p)) (type-words ts k p room q)
+
+  length-fails : (ts : List ℕ) (k p room : ℕ) → Roomed P bs (suc k) p room
       → (lengthOk P (P .rule (typeAt p) N) (suc k) room (lengthAt p) ≡ false)
-      ↔ (W .Legal N (typeAt p) (lengthAt p) × LengthFits W N L p k (lengthAt p) → ⊥)
-  length-fails k p room q = fails-exactly (lengthOk P (P .rule (typeAt p) N) (suc k) room (lengthAt p)) (length-words k p room q)
+      ↔ (W .Legal N (typeAt p) (lengthAt p) × LengthFits W N L p (typeAt p ∷ ts) k (lengthAt p) → ⊥)
+  length-fails ts k p room q =
+      fails-exactly (lengthOk P (P .rule (typeAt p) N) (suc k) room (lengthAt p)) (length-words ts k p room q)
 
   due : {r : ℕ} → Refused P bs r → Due W bs r
   unfolding magic
@@ -143,15 +152,26 @@ module _ (P : Profile) (S : Sound P) (W : Sentences) (says : Says P W) (bs : Lis
   due (at-count b h t) =
       record { before = checks-forth 32 b; there = h; lacks = reason-22 P S W says N L K (b .total (omega arith)) .0 t }
   due (at-subframe b h t) = inr (record { before = checks-forth 36 b; there = h; lacks = subframe-fails .0 t })
-  due (at-type {k = k} {p = p} {room = room} c h t) =
-      record { left = k; offset = p; passed = passed-forth c; there = h; lacks = type-fails k p room (reached-room c) .0 t }
-  due (at-length {k = k} {p = p} {room = room} c h t l) = let q = reached-room c in record {
+  due (at-repeat {ts = ts} {k = k} {p = p} c h f) =
+      record { types = ts; left = k; offset = p; passed = passed-forth c; there = h; lacks = fresh-fails ts p .0 f }
+  due (at-type {ts = ts} {k = k} {p = p} {room = room} c h f t) = record {
+    types = ts;
     left = k;
     offset = p;
     passed = passed-forth c;
     there = h;
-    type-fits = type-words k p room q .0 t;
-    lacks = length-fails k p room q .0 l;
+    fresh = fresh-words ts p .0 f;
+    lacks = type-fails ts k p room (reached-room c) .0 t;
+  }
+  due (at-length {ts = ts} {k = k} {p = p} {room = room} c h f t l) = let q = reached-room c in record {
+    types = ts;
+    left = k;
+    offset = p;
+    passed = passed-forth c;
+    there = h;
+    fresh = fresh-words ts p .0 f;
+    type-fits = type-words ts k p room q .0 t;
+    lacks = length-fails ts k p room q .0 l;
   }
 
   total-due : TotalRefused W bs → Refused P bs 21
@@ -161,14 +181,20 @@ module _ (P : Profile) (S : Sound P) (W : Sentences) (says : Says P W) (bs : Lis
   count-due f = let b = checks-back 32 (f .before) in
       at-count b (f .there) (reason-22 P S W says N L K (b .total (omega arith)) .1 (f .lacks))
 
+  repeat-due : RepeatRefused W bs → Refused P bs 25
+  repeat-due f = let ts = f .types in let p = f .offset in let g = passed-back (f .passed) in
+      at-repeat {ts = ts} {k = f .left} {p = p} {room = g .0} (g .1) (f .there) (fresh-fails ts p .1 (f .lacks))
+
   type-due : TypeRefused W bs → Refused P bs 23
-  type-due f = let k = f .left in let p = f .offset in let g = passed-back (f .passed) in
-      at-type {k = k} {p = p} {room = g .0} (g .1) (f .there) (type-fails k p (g .0) (reached-room (g .1)) .1 (f .lacks))
+  type-due f = let ts = f .types in let k = f .left in let p = f .offset in let g = passed-back (f .passed) in
+      at-type {ts = ts} {k = k} {p = p} {room = g .0} (g .1) (f .there) (fresh-words ts p .1 (f .fresh))
+      (type-fails ts k p (g .0) (reached-room (g .1)) .1 (f .lacks))
 
   length-due : LengthRefused W bs → Refused P bs 24
-  length-due f = let k = f .left in let p = f .offset in let g = passed-back (f .passed) in let q = reached-room (g .1) in
-      at-length {k = k} {p = p} {room = g .0} (g .1) (f .there) (type-words k p (g .0) q .1 (f .type-fits))
-      (length-fails k p (g .0) q .1 (f .lacks))
+  length-due f =
+      let ts = f .types in let k = f .left in let p = f .offset in let g = passed-back (f .passed) in let q = reached-room (g .1) in
+      at-length {ts = ts} {k = k} {p = p} {room = g .0} (g .1) (f .there) (fresh-words ts p .1 (f .fresh))
+      (type-words ts k p (g .0) q .1 (f .type-fits)) (length-fails ts k p (g .0) q .1 (f .lacks))
 
   fixed-due : ObjectsRefused W bs ⊎ SubframeRefused W bs → Refused P bs 26
   fixed-due (inl f) = at-objects (checks-back 28 (f .before)) (f .there) (objects-fails .1 (f .lacks))
@@ -182,7 +208,8 @@ module _ (P : Profile) (S : Sound P) (W : Sentences) (says : Says P W) (bs : Lis
       (one 22 (CountRefused W bs) _ count-due
       (one 23 (TypeRefused W bs) _ type-due
       (one 24 (LengthRefused W bs) _ length-due
-      (one 26 (ObjectsRefused W bs ⊎ SubframeRefused W bs) ⊥ fixed-due (λ z. absurd z))))))
+      (one 25 (RepeatRefused W bs) _ repeat-due
+      (one 26 (ObjectsRefused W bs ⊎ SubframeRefused W bs) ⊥ fixed-due (λ z. absurd z)))))))
     where
       one : (i : ℕ) (A B : Type 0) → (A → Refused P bs i) → (B → Refused P bs r) → Choose (eqb r i) A B → Refused P bs r
       one i A B f g = go (eqb r i) refl
@@ -215,6 +242,10 @@ module _ (P : Profile) (S : Sound P) (W : Sentences) (says : Says P W) (bs : Lis
   pub judged-24 : (judge (packet P) 0 bs ≡ Bad 24) ↔ LengthRefused W bs
   judged-24 = judged-bad 24
 
+  -- 25: the type of a record before excludes this one
+  pub judged-25 : (judge (packet P) 0 bs ≡ Bad 25) ↔ RepeatRefused W bs
+  judged-25 = judged-bad 25
+
   -- 26: the object count or the subframe is not legal
   pub judged-26 : (judge (packet P) 0 bs ≡ Bad 26) ↔ (ObjectsRefused W bs ⊎ SubframeRefused W bs)
   judged-26 = judged-bad 26
@@ -223,15 +254,17 @@ module _ (P : Profile) (S : Sound P) (W : Sentences) (says : Says P W) (bs : Lis
 
   ends-forth : EndsInside P bs → EndsInField W bs
   ends-forth (in-header i h b c) = header-field i h (checks-forth (8 + 4 * i) b) c
-  ends-forth (in-type {k = k} {p = p} r c) = type-field {k = k} {p = p} (passed-forth r) c
-  ends-forth (in-length {k = k} {p = p} {room = room} r t c) =
-      length-field {k = k} {p = p} (passed-forth r) (type-words k p room (reached-room r) .0 t) c
+  ends-forth (in-type {ts = ts} {k = k} {p = p} r c) = type-field {ts = ts} {k = k} {p = p} (passed-forth r) c
+  ends-forth (in-length {ts = ts} {k = k} {p = p} {room = room} r f t c) =
+      length-field {ts = ts} {k = k} {p = p} (passed-forth r) (fresh-words ts p .0 f) (type-words ts k p room (reached-room r) .0 t) c
 
   ends-back : EndsInField W bs → EndsInside P bs
   ends-back (header-field i h b c) = in-header i h (checks-back (8 + 4 * i) b) c
-  ends-back (type-field {k = k} {p = p} r c) = let g = passed-back r in in-type {k = k} {p = p} {room = g .0} (g .1) c
-  ends-back (length-field {k = k} {p = p} r t c) = let g = passed-back r in
-      in-length {k = k} {p = p} {room = g .0} (g .1) (type-words k p (g .0) (reached-room (g .1)) .1 t) c
+  ends-back (type-field {ts = ts} {k = k} {p = p} r c) = let g = passed-back r in
+      in-type {ts = ts} {k = k} {p = p} {room = g .0} (g .1) c
+  ends-back (length-field {ts = ts} {k = k} {p = p} r f t c) = let g = passed-back r in
+      in-length {ts = ts} {k = k} {p = p} {room = g .0} (g .1) (fresh-words ts p .1 f)
+      (type-words ts k p (g .0) (reached-room (g .1)) .1 t) c
 
   -- the form's bytes end inside a field exactly if the packet's do, in the papers' words
   pub ends-exactly : Inside (packet P) bs ↔ EndsInField W bs

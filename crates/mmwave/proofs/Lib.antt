@@ -1,5 +1,8 @@
-pub mod RecordLaws
 pub mod Tests
+pub mod Marks
+pub mod Together
+pub mod RecordLaws
+pub mod EntryLaws
 pub mod Sounds
 pub mod Lives
 pub mod MmWaveSound

@@ -14,6 +14,8 @@ use Rattle.mmwave.specs.MmWave.{mmWave, totalLegal, perObject, payloadRu
 use Rattle.mmwave.specs.Paper.{LegalPayload, Smallest, mmWaveSays}
 use Rattle.mmwave.proofs.MmWaveSound.{total-bounds}
 use Rattle.mmwave.proofs.Tests.{one-type}
+use Rattle.mmwave.proofs.Marks.{marks-exclude}
+use Rattle.mmwave.proofs.Together.{each-once}
 use Rattle.mmwave.proofs.Paper.{Says}
 
 -- -- Payload lengths
@@ -75,12 +77,14 @@ total-legal : (l : ℕ) → (l % 32 ≡ 0) × (64 ≤ l) × (l ≤ 32768) → to
 unfolding totalLegal
 total-legal l b = rw (eq-eqb (l % 32) 0 (b .0), le-leb 64 l (b .1), le-leb l 32768 (b .2))
 
--- the mmWave profile says paper 01's sentences
+-- the mmWave profile says the sentences of paper 01 and of paper 02, (vii)
 pub mmWave-says : Says mmWave mmWaveSays
 unfolding mmWave
 mmWave-says = record {
   kind-is = refl;
   legal-says = λ n type m. (legal-forth n type m, legal-back n type m);
+  marks-say = marks-exclude;
+  together-says = each-once;
   total-says = λ l. (total-bounds l, total-legal l);
   objects-says = λ n. (λ h. tt, λ h. refl);
   subframe-says = λ n. (λ h. tt, λ h. refl);

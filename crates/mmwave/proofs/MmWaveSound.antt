@@ -1,4 +1,4 @@
--- The mmWave profile is sound: a free type takes any room.
+-- The mmWave profile is sound: a free type takes any room and may repeat.
 use mathlib.Core.Bool.{Bool, true, false, cond, _&&_}
 use mathlib.Core.Path.{_≡_, refl}
 use mathlib.Core.Logic.{inr}
@@ -9,7 +9,7 @@ use lib.Dec.{eqb, leb}
 use borrow.Author.Tests.{eqb-true}
 use Rattle.digits.proofs.Choices.{within-bounds}
 use Rattle.mmwave.specs.Profile.{Sound}
-use Rattle.mmwave.specs.MmWave.{mmWave, totalLegal, payloadRule}
+use Rattle.mmwave.specs.MmWave.{mmWave, totalLegal, payloadRule, onceBit, onceMark}
 
 -- a legal total length is a multiple of 32 from 64 to 32,768
 pub total-bounds : (l : ℕ) → totalLegal l ≡ true → (l % 32 ≡ 0) × (64 ≤ l) × (l ≤ 32768)
@@ -22,7 +22,7 @@ total-bounds l h = go (eqb (l % 32) 0) refl h
 
 -- the mmWave profile is sound
 pub mmWave-sound : Sound mmWave
-unfolding mmWave totalLegal payloadRule
+unfolding mmWave totalLegal payloadRule onceBit onceMark
 mmWave-sound = record {
   some-total = (64, omega arith, refl);
   some-objects = (0, omega arith, refl);
@@ -35,4 +35,5 @@ mmWave-sound = record {
   filler = 0;
   filler-small = omega arith;
   filler-takes = λ n room f. refl;
+  filler-repeats = refl;
 }

@@ -1,7 +1,7 @@
 -- The papers' packet is the form's frame, for any sound profile whose tests say the papers' sentences.
 use mathlib.Core.Bool.{true}
 use mathlib.Core.Path.{_≡_, sym, ap, _∙_}
-use mathlib.Core.List.{List}
+use mathlib.Core.List.{List, [], _∷_}
 use mathlib.Core.Logic.{_↔_}
 use Prim.Native.Nat.{ℕ, _+_, _-_, _*_, _%_, _≤_}
 use native.Mathlib.Nat.{zero-mod}
@@ -9,19 +9,23 @@ use native.Mathlib.Omega.{arith}
 use lib.ListN.{length}
 use Rattle.digits.specs.LittleEndian.{littleAt}
 use Rattle.form.specs.Form.{Frame}
-use Rattle.mmwave.specs.Profile.{Profile, legal, Sound, Fair}
+use Rattle.mmwave.specs.Profile.{Profile, legal, fresh, see, seenIn, Sound, Fair}
 use Rattle.mmwave.specs.Packet.{magic, packet}
 use Rattle.mmwave.specs.Document.{Records, none, more, Laid}
-use Rattle.mmwave.specs.Paper.{Sentences, RecordsTo, Packet}
+use Rattle.mmwave.specs.Paper.{Sentences, RecordsTo, typesFrom, Packet, NoneExcludes}
 use Rattle.mmwave.specs.Paper.{none as none·paper, more as more·paper}
+use Rattle.mmwave.proofs.Marks.{Apart, fresh-first, fresh-more}
+use Rattle.mmwave.proofs.Together.{NoneAgain}
 use Rattle.mmwave.proofs.Sounds.{fair-more}
 use Rattle.mmwave.proofs.Document.{frame-exactly-if-laid, records-least, records-end}
 
--- the tests of a profile say a dialect's sentences; without records L is the least; and an L within the bounds is legal where records of
--- whole units end so that it fits
+-- the tests of a profile say a dialect's sentences; marks that share a bit are of types that exclude one another; without records L is the
+-- least; and an L within the bounds is legal where records of whole units end so that it fits
 pub record Says (P : Profile) (W : Sentences) : Type 0 where
   pub kind-is : P .kind ≡ W .kind
   pub legal-says : (n type m : ℕ) → (legal (P .rule type n) m ≡ true) ↔ W .Legal n type m
+  pub marks-say : (s t : ℕ) → Apart (P .mark s) (P .mark t) ↔ (W .Excludes s t → ⊥)
+  pub together-says : (types : List ℕ) → W .Together types ↔ NoneAgain W [] types
   pub total-says : (l : ℕ) → (P .total l ≡ true) ↔ W .Total l
   pub objects-says : (n : ℕ) → (P .objects n ≡ true) ↔ W .Objects n
   pub subframe-says : (v : ℕ) → (P .subframe v ≡ true) ↔ W .Subframe v
@@ -33,12 +37,12 @@ pub record Says (P : Profile) (W : Sentences) : Type 0 where
       → P .total l ≡ true
 
 -- records take whole units
-records-fair : (P : Profile) (S : Sound P) (bs : List ℕ) (n : ℕ) {k p e : ℕ} → Records P bs n k p e → Fair P (e - p)
+records-fair : (P : Profile) (S : Sound P) (bs : List ℕ) (n : ℕ) {ts : List ℕ} {k p e : ℕ} → Records P bs n ts k p e → Fair P (e - p)
 records-fair P S bs n {p = p} none = ap (λ (x : ℕ). x % P .unit) nothing ∙ zero-mod (P .unit)
   where
     nothing : p - p ≡ 0
     nothing = omega arith
-records-fair P S bs n {p = p} {e = e} (more {k = k} l r) =
+records-fair P S bs n {p = p} {e = e} (more {k = k} f l r) =
     ap (λ (x : ℕ). x % P .unit) (parts k (records-least r))
     ∙ fair-more P S n (littleAt 4 p bs) (littleAt 4 (p + 4) bs) (e - (p + 8 + littleAt 4 (p + 4) bs)) l (records-fair P S bs n r)
   where
@@ -47,16 +51,33 @@ records-fair P S bs n {p = p} {e = e} (more {k = k} l r) =
     parts k h = omega arith
 
 module _ (P : Profile) (S : Sound P) (W : Sentences) (says : Says P W) where
-  words-forth : {bs : List ℕ} {n k p e : ℕ} → Records P bs n k p e → RecordsTo W bs n k p e
+  -- a type is fresh behind others exactly if none of them excludes it
+  pub fresh-exactly : (ts : List ℕ) (t : ℕ) → (fresh P (seenIn P ts) t ≡ true) ↔ NoneExcludes W ts t
+  unfolding seenIn NoneExcludes
+  fresh-exactly [] t = (λ h. tt, λ h. fresh-first P t)
+  fresh-exactly (s ∷ ts) t = let m = fresh-more P (seenIn P ts) s t in let r = fresh-exactly ts t in let x = says .marks-say s t in
+      (λ h. let g = m .0 h in (x .0 (g .1), r .0 (g .0)), λ g. m .1 (r .1 (g .1), x .1 (g .0)))
+
+  words-forth : {bs ts : List ℕ} {n k p e : ℕ} → Records P bs n ts k p e → RecordsTo W bs n k p e
   words-forth none = none·paper
-  words-forth {bs = bs} {n = n} (more {p = p} l r) =
+  words-forth {bs = bs} {n = n} (more {p = p} f l r) =
       more·paper (says .legal-says n (littleAt 4 p bs) (littleAt 4 (p + 4) bs) .0 l) (words-forth r)
 
-  -- the papers' records are the profile's
-  pub words-back : {bs : List ℕ} {n k p e : ℕ} → RecordsTo W bs n k p e → Records P bs n k p e
-  words-back none·paper = none
-  words-back {bs = bs} {n = n} (more·paper {p = p} l r) =
-      more (says .legal-says n (littleAt 4 p bs) (littleAt 4 (p + 4) bs) .1 l) (words-back r)
+  none-again : {bs ts : List ℕ} {n k p e : ℕ} → Records P bs n ts k p e → NoneAgain W ts (typesFrom bs k p)
+  unfolding NoneAgain typesFrom
+  none-again none = tt
+  none-again {bs = bs} {ts = ts} (more {p = p} f l r) = (fresh-exactly ts (littleAt 4 p bs) .0 f, none-again r)
+
+  words-back : {bs ts : List ℕ} {n k p e : ℕ} → RecordsTo W bs n k p e → NoneAgain W ts (typesFrom bs k p) → Records P bs n ts k p e
+  unfolding NoneAgain typesFrom
+  words-back none·paper a = none
+  words-back {bs = bs} {ts = ts} {n = n} (more·paper {p = p} l r) a =
+      more (fresh-exactly ts (littleAt 4 p bs) .1 (a .0)) (says .legal-says n (littleAt 4 p bs) (littleAt 4 (p + 4) bs) .1 l)
+      (words-back r (a .1))
+
+  -- the records of the papers' packet are the profile's
+  pub packet-records : (bs : List ℕ) (g : Packet W bs) → Records P bs (littleAt 4 28 bs) [] (littleAt 4 32 bs) 40 (g .end)
+  packet-records bs g = words-back (g .records) (says .together-says (typesFrom bs (littleAt 4 32 bs) 40) .0 (g .once))
 
   laid-packet : (bs : List ℕ) → Laid P bs → Packet W bs
   unfolding magic
@@ -70,13 +91,14 @@ module _ (P : Profile) (S : Sound P) (W : Sentences) (says : Says P W) where
     subframe = says .subframe-says (littleAt 4 36 bs) .0 (g .subframe);
     end = g .end;
     records = words-forth (g .records);
+    once = says .together-says (typesFrom bs (littleAt 4 32 bs) 40) .1 (none-again (g .records));
     fits = says .near-fits (g .end) (length bs) (g .total) (g .above) (g .padding);
   }
 
   -- the total length of a packet is legal: it follows from the rest
   pub packet-total : (bs : List ℕ) → Packet W bs → P .total (length bs) ≡ true
   packet-total bs g =
-      let r = words-back (g .records) in let k = littleAt 4 32 bs in
+      let r = packet-records bs g in let k = littleAt 4 32 bs in
       let e : g .end ≡ 40 + (g .end - 40) = omega (arith, records-least r) in
       says .total-follows k (g .end - 40) (length bs) (g .at-least) (g .at-most) (rw e at (g .fits))
       (records-fair P S bs (littleAt 4 28 bs) r) (omega (arith, records-least r)) (λ z. omega (arith, records-end r z))
@@ -91,7 +113,7 @@ module _ (P : Profile) (S : Sound P) (W : Sentences) (says : Says P W) where
     count = g .count;
     subframe = says .subframe-says (littleAt 4 36 bs) .1 (g .subframe);
     end = g .end;
-    records = words-back (g .records);
+    records = packet-records bs g;
     above = n .0;
     padding = n .1;
   }

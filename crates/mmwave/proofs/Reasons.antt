@@ -2,18 +2,20 @@
 -- follow unless none is left and the room is more than padding.
 use mathlib.Core.Bool.{Bool, true, false}
 use mathlib.Core.Path.{_≡_, refl, sym, ap, _∙_}
+use mathlib.Core.List.{List, [], _∷_}
 use mathlib.Core.Logic.{_↔_, _⊎_, inl, inr}
 use Prim.Native.Nat.{ℕ, zero, suc, _+_, _-_, _*_, _%_, _<_, _≤_}
 use native.Mathlib.Nat.{zero-mod}
 use native.Mathlib.Omega.{arith}
 use native.Mathlib.Decide.{decLe}
 use Rattle.digits.proofs.Choices.{and-parts}
-use Rattle.mmwave.specs.Profile.{Profile, legal, countOk, fits, typeOk, lengthOk, Leaves, Sound, Fair}
-use Rattle.mmwave.specs.Paper.{Sentences, Later, nothing, later, CountFits, LengthFits, TypeFits}
+use Rattle.mmwave.specs.Profile.{Profile, legal, countOk, fits, typeOk, lengthOk, Leaves, seenIn, Sound, Fair}
+use Rattle.mmwave.specs.Paper.{Sentences, NoneExcludes, Later, nothing, later, CountFits, LengthFits, TypeFits}
 use Rattle.mmwave.proofs.RecordLaws.{length-both}
 use Rattle.mmwave.proofs.Tests.{Counts, fits-exactly, count-tested, possible-exactly}
 use Rattle.mmwave.proofs.Sounds.{fair-start, fair-less, fair-more, some-count}
-use Rattle.mmwave.proofs.Paper.{Says}
+use Rattle.mmwave.proofs.Marks.{fresh-unmarked}
+use Rattle.mmwave.proofs.Paper.{Says, fresh-exactly}
 
 -- -- A test that fails
 
@@ -24,43 +26,49 @@ fails-exactly false f = (λ e a. let g = f .1 a in let z : _≡_ {A = ℕ} 0 1 =
 
 -- -- Records that could follow
 
-later-least : {W : Sentences} {n k e : ℕ} → Later W n k e → 8 * k ≤ e
+later-least : {W : Sentences} {ts : List ℕ} {n k e : ℕ} → Later W n ts k e → 8 * k ≤ e
 later-least nothing = omega arith
-later-least (later type m s w r) = omega (arith, later-least r)
+later-least (later type m s f w r) = omega (arith, later-least r)
 
-later-none : {W : Sentences} {n k e : ℕ} → Later W n k e → k ≡ 0 → e ≡ 0
+later-none : {W : Sentences} {ts : List ℕ} {n k e : ℕ} → Later W n ts k e → k ≡ 0 → e ≡ 0
 later-none nothing h = refl
-later-none (later type m s w r) h = absurd (omega arith)
+later-none (later type m s f w r) h = absurd (omega arith)
 
 module _ (P : Profile) (S : Sound P) (W : Sentences) (says : Says P W) where
-  later-fair : (n : ℕ) {k e : ℕ} → Later W n k e → Fair P e
+  later-fair : (n : ℕ) {ts : List ℕ} {k e : ℕ} → Later W n ts k e → Fair P e
   later-fair n nothing = zero-mod (P .unit)
-  later-fair n (later {e = e} type m s w r) = fair-more P S n type m e (says .legal-says n type m .1 w) (later-fair n r)
+  later-fair n (later {e = e} type m s f w r) = fair-more P S n type m e (says .legal-says n type m .1 w) (later-fair n r)
 
-  -- records can follow so that l fits
-  follow : (n k l p : ℕ) → P .total l ≡ true → p + 8 * k ≤ l → Fair P (l - (p + 8 * k)) → (k ≡ 0 → l - p ≤ P .padding)
-      → (e : ℕ) × Later W n k e × W .Fits (p + e) l
-  follow n zero l p t h f z = (0, nothing, says .near-fits (p + 0) l t (omega arith) (omega (arith, z refl)))
-  follow n (suc k) l p t h f z =
+  -- no type excludes the filler
+  filler-fresh : (ts : List ℕ) → NoneExcludes W ts (S .filler)
+  filler-fresh ts =
+      fresh-exactly P S W says ts (S .filler) .0 (fresh-unmarked P (seenIn P ts) (S .filler) (S .filler-repeats))
+
+  -- records can follow so that l fits, behind whatever types: "a free type can always fill the rest" (paper 02, (vii))
+  follow : (n : ℕ) (ts : List ℕ) (k l p : ℕ) → P .total l ≡ true → p + 8 * k ≤ l → Fair P (l - (p + 8 * k)) → (k ≡ 0 → l - p ≤ P .padding)
+      → (e : ℕ) × Later W n ts k e × W .Fits (p + e) l
+  follow n ts zero l p t h f z = (0, nothing, says .near-fits (p + 0) l t (omega arith) (omega (arith, z refl)))
+  follow n ts (suc k) l p t h f z =
       let m = l - (p + 8 * suc k) in
       let empty : l - (p + 8 + m + 8 * k) ≡ 0 = omega arith in
       let fair = ap (λ (x : ℕ). x % P .unit) empty ∙ zero-mod (P .unit) in
-      let r = follow n k l (p + 8 + m) t (omega arith) fair (λ e. omega arith) in
+      let r = follow n (S .filler ∷ ts) k l (p + 8 + m) t (omega arith) fair (λ e. omega arith) in
       let q : p + 8 + m + r .0 ≡ p + (8 + m + r .0) = omega arith in
       let fills = says .legal-says n (S .filler) m .0 (S .filler-takes n m f) in
-      (8 + m + r .0, later (S .filler) m (S .filler-small) fills (r .1), rw q at (r .2))
+      (8 + m + r .0, later (S .filler) m (S .filler-small) (filler-fresh ts) fills (r .1), rw q at (r .2))
 
   -- records that end so that l fits leave no more than padding
-  followed : (n l p : ℕ) {k e : ℕ} → Later W n k e → W .Fits (p + e) l → (p + 8 * k ≤ l) × (k ≡ 0 → l - p ≤ P .padding)
-  followed n l p {k} {e} r s = let g = says .fits-near (p + e) l s in
+  followed : (n l p : ℕ) {ts : List ℕ} {k e : ℕ} → Later W n ts k e → W .Fits (p + e) l → (p + 8 * k ≤ l) × (k ≡ 0 → l - p ≤ P .padding)
+  followed n l p {ts} {k} {e} r s = let g = says .fits-near (p + e) l s in
       (omega (arith, later-least r, g .0), λ z. omega (arith, later-none r z, g .1))
 
   -- -- Reason 22
 
-  -- a record count passes exactly if it is at most 32 and so many records can end so that l fits, whatever the object count
+  -- a record count passes exactly if it is at most 32 and so many records can end so that l fits, whatever the object count; that each kind
+  -- of record comes once moves nothing here, since the filler may repeat
   pub count-exactly : (n l k : ℕ) → P .total l ≡ true → (countOk P l k ≡ true) ↔ ((k ≤ 32) × CountFits W n l k)
   count-exactly n l k t = let c = count-tested P l k in (
-    λ h. let g = c .0 h in (g .0, follow n k l 40 t (g .1) (fair-start P S l k t (g .1)) (g .2)),
+    λ h. let g = c .0 h in (g .0, follow n [] k l 40 t (g .1) (fair-start P S l k t (g .1)) (g .2)),
     λ g. let f = followed n l 40 (g .1 .1) (g .1 .2) in c .1 (g .0, f .0, f .1),
   )
 
@@ -112,33 +120,36 @@ module _ (P : Profile) (S : Sound P) (W : Sentences) (says : Says P W) where
         says .total-follows (g .2 .0) (g .2 .2 .0) l (g .0) (g .1) (g .2 .2 .2) (later-fair n r) (later-least r) (later-none r),
   )
 
-  -- -- Reasons 23 and 24, at a record at offset p with k records behind it
+  -- -- Reasons 23 and 24, at a record at offset p, behind records of types ts and with k records behind it
 
-  module _ (n l p k : ℕ) (legal-total : P .total l ≡ true) (headers : p + 8 * suc k ≤ l) (fair : Fair P (l - (p + 8 * suc k))) where
-    leaves-forth : (type m : ℕ) → legal (P .rule type n) m ≡ true → Leaves P k (l - (p + 8 * suc k)) m → LengthFits W n l p k m
+  module _ (n l p : ℕ) (ts : List ℕ) (k : ℕ) (legal-total : P .total l ≡ true) (headers : p + 8 * suc k ≤ l)
+      (fair : Fair P (l - (p + 8 * suc k))) where
+    leaves-forth : (type m : ℕ) → legal (P .rule type n) m ≡ true → Leaves P k (l - (p + 8 * suc k)) m
+        → LengthFits W n l p (type ∷ ts) k m
     leaves-forth type m w g =
         let room = l - (p + 8 * suc k) in let i = g .0 in
         let parts : l - (p + 8 + m + 8 * k) ≡ l - (p + 8 * suc k) - m = omega arith in
         let rest-fair = ap (λ (x : ℕ). x % P .unit) parts ∙ fair-less P S n type m room fair w i in
-        follow n k l (p + 8 + m) legal-total (omega arith) rest-fair (λ z. omega (arith, g .1 z))
+        follow n (type ∷ ts) k l (p + 8 + m) legal-total (omega arith) rest-fair (λ z. omega (arith, g .1 z))
 
-    leaves-back : (m : ℕ) → LengthFits W n l p k m → Leaves P k (l - (p + 8 * suc k)) m
-    leaves-back m g = let f = followed n l (p + 8 + m) (g .1) (g .2) in (omega (arith, f .0), λ z. omega (arith, f .1 z))
+    leaves-back : (type m : ℕ) → LengthFits W n l p (type ∷ ts) k m → Leaves P k (l - (p + 8 * suc k)) m
+    leaves-back type m g = let f = followed n l (p + 8 + m) (g .1) (g .2) in (omega (arith, f .0), λ z. omega (arith, f .1 z))
 
     -- a type passes exactly if some legal payload length of this type lets the records end so that l fits
-    pub type-exactly : (type : ℕ) → (typeOk P n (suc k) (l - (p + 8 * suc k)) type ≡ true) ↔ TypeFits W n l p k type
+    pub type-exactly : (type : ℕ) → (typeOk P n (suc k) (l - (p + 8 * suc k)) type ≡ true) ↔ TypeFits W n l p ts k type
     unfolding typeOk
     type-exactly type = let f = possible-exactly P k (l - (p + 8 * suc k)) (P .rule type n) in (
       λ h. let g = f .0 h in (g .0, says .legal-says n type (g .0) .0 (g .1), leaves-forth type (g .0) (g .1) (g .2)),
-      λ g. f .1 (g .0, says .legal-says n type (g .0) .1 (g .1), leaves-back (g .0) (g .2)),
+      λ g. f .1 (g .0, says .legal-says n type (g .0) .1 (g .1), leaves-back type (g .0) (g .2)),
     )
 
     -- a payload length passes exactly if it is legal for the type and lets the records end so that l fits
     pub length-exactly : (type m : ℕ) → (lengthOk P (P .rule type n) (suc k) (l - (p + 8 * suc k)) m ≡ true)
-        ↔ (W .Legal n type m × LengthFits W n l p k m)
+        ↔ (W .Legal n type m × LengthFits W n l p (type ∷ ts) k m)
     unfolding lengthOk
     length-exactly type m = let room = l - (p + 8 * suc k) in let rule = P .rule type n in let f = fits-exactly P k room m in (
       λ h. let b = and-parts (legal rule m) (fits P (suc k) room m) h in
           (says .legal-says n type m .0 (b .0), leaves-forth type m (b .0) (f .0 (b .1))),
-      λ g. sym (length-both P rule (suc k) room m (sym (says .legal-says n type m .1 (g .0))) refl (sym (f .1 (leaves-back m (g .1))))),
+      λ g. let fitting = f .1 (leaves-back type m (g .1)) in
+          sym (length-both P rule (suc k) room m (sym (says .legal-says n type m .1 (g .0))) refl (sym fitting)),
     )

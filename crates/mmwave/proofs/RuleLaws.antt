@@ -14,10 +14,10 @@ use Rattle.mmwave.specs.declared.Rule.the-variants.{Never, Exact, Multip
 use Rattle.mmwave.specs.declared.Unit.{Unit}
 use Rattle.mmwave.specs.declared.Unit.the-variants.{Two, Four, Sixteen}
 use Rattle.mmwave.specs.Profile.{Profile, unitOf, legal, countOk, fits, possible, lengthOk}
-use Rattle.mmwave.specs.MmWave.{mmWave, totalLegal, perObject, payloadRule}
+use Rattle.mmwave.specs.MmWave.{mmWave, totalLegal, perObject, payloadRule, onceBit, onceMark}
 use Rattle.mmwave.specs.VitalSigns.{vitalSigns, vitalTotal, vitalRule}
 use Rattle.mmwave.specs.Dialects.{profileOf}
-use Rattle.mmwave.specs.Internal.{lowBits, dialectOfKind}
+use Rattle.mmwave.specs.Internal.{lowBits}
 use Rattle.mmwave.proofs.Tests.{fits-exactly, possible-exactly}
 
 -- -- By the dialect
@@ -25,20 +25,6 @@ use Rattle.mmwave.proofs.Tests.{fits-exactly, possible-exactly}
 -- what holds of the profile of one dialect holds where the dialect is that one
 pub of-dialect : {A : Type 0} (f : Profile → A) {d e : PacketDialect} {x : A} → x ≡ f (profileOf e) → d ≡ e → x ≡ f (profileOf d)
 of-dialect f h g = h ∙ ap (λ (d : PacketDialect). f (profileOf d)) (sym g)
-
--- the kind of a dialect names it
-pub kind-names : (d : PacketDialect) {kind : ℕ} → kind ≡ profileOf d .kind → dialectOfKind kind ≡ d
-unfolding profileOf mmWave vitalSigns dialectOfKind
-kind-names MmWave e = rw e
-kind-names VitalSigns e = rw e
-
-pub kind-first : (kind : ℕ) → kind ≡ 16 → MmWave ≡ dialectOfKind kind
-unfolding dialectOfKind
-kind-first kind e = rw (eq-eqb kind 16 e)
-
-pub kind-second : (kind : ℕ) → (kind ≡ 16 → ⊥) → VitalSigns ≡ dialectOfKind kind
-unfolding dialectOfKind
-kind-second kind n = rw (ne-eqb kind 16 n)
 
 module _ {d : PacketDialect} (e : d ≡ MmWave) where
   pub total-mmwave : (l : ℕ) {b : Bool} → b ≡ totalLegal l → b ≡ profileOf d .total l
@@ -57,6 +43,10 @@ module _ {d : PacketDialect} (e : d ≡ MmWave) where
   unfolding profileOf mmWave
   rule-mmwave type n h = of-dialect (λ (P : Profile). P .rule type n) h e
 
+  pub mark-mmwave : (type : ℕ) {m : ℕ} → m ≡ onceMark type → m ≡ profileOf d .mark type
+  unfolding profileOf mmWave
+  mark-mmwave type h = of-dialect (λ (P : Profile). P .mark type) h e
+
 module _ {d : PacketDialect} (e : d ≡ VitalSigns) where
   pub total-vital : (l : ℕ) {b : Bool} → b ≡ vitalTotal l → b ≡ profileOf d .total l
   unfolding profileOf vitalSigns
@@ -73,6 +63,10 @@ module _ {d : PacketDialect} (e : d ≡ VitalSigns) where
   pub rule-vital : (type n : ℕ) {rule : Rule} → rule ≡ vitalRule type → rule ≡ profileOf d .rule type n
   unfolding profileOf vitalSigns
   rule-vital type n h = of-dialect (λ (P : Profile). P .rule type n) h e
+
+  pub mark-vital : (type : ℕ) → 0 ≡ profileOf d .mark type
+  unfolding profileOf vitalSigns
+  mark-vital type = of-dialect (λ (P : Profile). P .mark type) refl e
 
 -- -- The total length
 
@@ -142,6 +136,30 @@ no-objects size n e = rw (eq-eqb n 0 e)
 pub some-objects : (size n : ℕ) {b : ℕ} → (n ≡ 0 → ⊥) → b ≡ size * n → Exact b ≡ perObject size n
 unfolding perObject
 some-objects size n m e = rw (ne-eqb n 0 m, e)
+
+-- -- The mark of a type
+
+pub mark-type : {i type : ℕ} → i ≡ type → onceMark type ≡ onceMark i
+mark-type e = ap onceMark (sym e)
+
+positive : (n : ℕ) → 0 < suc n
+positive n = omega arith
+
+beyond-four : (type : ℕ) → 0 < type → (type ≡ 1 → ⊥) → (type ≡ 2 → ⊥) → (type ≡ 3 → ⊥) → (type ≡ 4 → ⊥) → 4 < type
+beyond-four type h n₁ n₂ n₃ n₄ = omega arith
+
+beyond-nine : (type : ℕ) → 4 < type → (type ≡ 5 → ⊥) → (type ≡ 6 → ⊥) → (type ≡ 7 → ⊥) → (type ≡ 8 → ⊥) → (type ≡ 9 → ⊥) → 9 < type
+beyond-nine type h n₅ n₆ n₇ n₈ n₉ = omega arith
+
+-- a type that is none of the known ones has no mark
+pub mark-other : (type : ℕ) → (type ≡ 1 → ⊥) → (type ≡ 2 → ⊥) → (type ≡ 3 → ⊥) → (type ≡ 4 → ⊥) → (type ≡ 5 → ⊥) → (type ≡ 6 → ⊥)
+    → (type ≡ 7 → ⊥) → (type ≡ 8 → ⊥) → (type ≡ 9 → ⊥) → 0 ≡ onceMark type
+unfolding onceMark onceBit
+mark-other zero n₁ n₂ n₃ n₄ n₅ n₆ n₇ n₈ n₉ = refl
+mark-other (suc type) n₁ n₂ n₃ n₄ n₅ n₆ n₇ n₈ n₉ =
+    let four = beyond-four (suc type) (positive type) n₁ n₂ n₃ n₄ in
+    let nine = beyond-nine (suc type) four n₅ n₆ n₇ n₈ n₉ in
+    rw (ne-eqb (suc type) 8 n₈, lt-leb (suc type) 9 nine)
 
 -- -- The fit of a payload length
 

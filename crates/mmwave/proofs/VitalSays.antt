@@ -1,7 +1,7 @@
 -- The vital-signs profile says the sentences of paper 02, (i).
 use mathlib.Core.Bool.{Bool, true, false, cond}
 use mathlib.Core.Path.{_≡_, refl}
-use mathlib.Core.List.{List}
+use mathlib.Core.List.{List, [], _∷_}
 use mathlib.Core.Logic.{_↔_}
 use Prim.Native.Nat.{ℕ, zero, suc, _+_, _*_, _%_, _≤_}
 use native.Mathlib.Omega.{arith}
@@ -13,9 +13,10 @@ use Rattle.mmwave.specs.declared.Rule.the-variants.{Never, Exact, Multip
 use Rattle.mmwave.specs.declared.Unit.the-variants.{Four, Sixteen}
 use Rattle.mmwave.specs.Profile.{legal}
 use Rattle.mmwave.specs.VitalSigns.{vitalSigns, vitalTotal, vitalRule}
-use Rattle.mmwave.specs.Paper.{LegalVital, vitalSays, Packet}
+use Rattle.mmwave.specs.Paper.{LegalVital, vitalSays, Packet, NoneExcludes}
 use Rattle.mmwave.proofs.VitalSound.{VitalBounds, vital-sound, vital-bounds, vital-types}
-use Rattle.mmwave.proofs.Paper.{Says, words-back, packet-total}
+use Rattle.mmwave.proofs.Paper.{Says, packet-records, packet-total}
+use Rattle.mmwave.proofs.Together.{NoneAgain}
 use Rattle.mmwave.proofs.Document.{records-least, records-end}
 
 -- -- Payload lengths
@@ -48,6 +49,19 @@ legal-back type m w = go (eqb type 1) refl (eqb type 2) refl (eqb type 3) refl (
     go false e false f false g false h = absurd (omega
         (arith, eqb-false type 1 e, eqb-false type 2 f, eqb-false type 3 g, eqb-false type 4 h, w .known .0, w .known .1))
 
+-- -- The types together
+
+-- in vital signs no type excludes another
+pub none-excluded : (ts : List ℕ) (t : ℕ) → NoneExcludes vitalSays ts t
+unfolding NoneExcludes
+none-excluded [] t = tt
+none-excluded (s ∷ ts) t = (λ e. e, none-excluded ts t)
+
+any-together : (ts us : List ℕ) → NoneAgain vitalSays ts us
+unfolding NoneAgain
+any-together ts [] = tt
+any-together ts (u ∷ us) = (none-excluded ts u, any-together (u ∷ ts) us)
+
 -- -- The total length
 
 total-legal : (l : ℕ) → VitalBounds l → vitalTotal l ≡ true
@@ -64,6 +78,8 @@ unfolding vitalSigns
 vital-says = record {
   kind-is = refl;
   legal-says = λ n type m. (legal-forth type m, legal-back type m);
+  marks-say = λ s t. (λ h e. e, λ h. refl);
+  together-says = λ types. (λ h. any-together [] types, λ h. tt);
   total-says = λ l. (vital-bounds l, total-legal l);
   objects-says = λ n. (eqb-true n 99, eq-eqb n 99);
   subframe-says = λ v. (eqb-true v 0, eq-eqb v 0);
@@ -80,7 +96,7 @@ pub vital-lengths : (bs : List ℕ) → Packet vitalSays bs
 unfolding vitalSigns
 vital-lengths bs g =
     let b = vital-bounds (length bs) (packet-total vitalSigns vital-sound vitalSays vital-says bs g) in
-    let r = words-back vitalSigns vital-sound vitalSays vital-says (g .records) in (
+    let r = packet-records vitalSigns vital-sound vitalSays vital-says bs g in (
       b .0,
       b .1,
       (λ h. omega (arith, g .fits, records-end r h), λ h. omega (arith, g .fits, records-least r)),

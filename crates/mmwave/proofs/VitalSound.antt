@@ -66,4 +66,5 @@ vital-sound = record {
   filler = 2;
   filler-small = omega arith;
   filler-takes = λ n room f. eq-eqb (room % 4) 0 f;
+  filler-repeats = refl;
 }

@@ -1,41 +1,39 @@
 -- The laws for a packet whose bytes are there, for any profile: it is judged by the numbers at their offsets.
 use mathlib.Core.Bool.{Bool, true, false, cond}
-use mathlib.Core.Path.{_≡_, refl, sym, ap, subst, _∙_}
+use mathlib.Core.Path.{_≡_, refl, sym, ap, _∙_}
 use mathlib.Core.List.{List, [], _∷_}
 use Prim.Native.Nat.{ℕ, zero, suc, _+_, _-_, _*_, _<_, _≤_}
-use native.Mathlib.Nat.{add-zero}
 use native.Mathlib.Omega.{arith}
+use lib.Bits.{bitAnd, bitOr}
 use lib.Dec.{eqb}
-use lib.ListN.{length, take, drop, getD, length-drop}
+use lib.ListN.{length, take, getD}
 use borrow.Author.Tests.{eq-eqb, ne-eqb, eqb-true}
-use Rattle.digits.proofs.Choices.{both-ways, cond-apply}
-use Rattle.digits.proofs.Lists.{part-drop}
+use Rattle.digits.proofs.Choices.{both-ways}
 use Rattle.digits.specs.LittleEndian.{fromLittle, littleAt}
 use Rattle.form.specs.declared.Judgement.{Judgement}
 use Rattle.form.specs.declared.Judgement.the-variants.{Whole, Bad}
-use Rattle.form.specs.Form.{Form, whole, _>>=_, judge, judgeAt}
+use Rattle.form.specs.Form.{whole, judge, judgeAt}
 use Rattle.form.specs.Pieces.{free}
-use Rattle.form.proofs.PieceLaws.{go-on, stop, whole-there, four-bad, free-whole, marker-other, moved, judge-moved}
-use Rattle.form.proofs.FieldLaws.{field-on}
-use Rattle.mmwave.specs.declared.PacketDialect.{PacketDialect}
+use Rattle.form.proofs.PieceLaws.{go-on, stop, whole-there, free-whole, marker-other}
 use Rattle.mmwave.specs.declared.Rule.{Rule}
-use Rattle.mmwave.specs.Profile.{Profile, countOk, typeOk, lengthOk}
-use Rattle.mmwave.specs.Packet.{magic, entry, last, records, packet}
+use Rattle.mmwave.specs.Profile.{Profile, countOk, fresh, typeOk, lengthOk, see}
+use Rattle.mmwave.specs.Packet.{magic, last, records, packet}
 use Rattle.mmwave.specs.Document.{HoldsBefore, at-total, at-objects, at-count, at-subframe}
-use Rattle.mmwave.specs.Dialects.{profileOf}
 use Rattle.mmwave.specs.Internal.{settled, Settles}
-use Rattle.mmwave.proofs.RecordLaws.{records-none, records-more, passed-fits}
+use Rattle.mmwave.proofs.Marks.{unseen, seen-again, seen-with}
+use Rattle.mmwave.proofs.RecordLaws.{records-none, passed-fits, type-repeats, type-unfit}
+use Rattle.mmwave.proofs.EntryLaws.{type-refuses, length-refuses, entry-on}
 use Rattle.mmwave.proofs.RuleLaws.{length-type}
-use Rattle.mmwave.proofs.Document.{entry-whole, holds-magic, holds-total, holds-objects, holds-count, holds-subframe, header-on}
+use Rattle.mmwave.proofs.Document.{holds-magic, holds-total, holds-objects, holds-count, holds-subframe, header-on}
 use Rattle.mmwave.proofs.Refusals.{bad-exactly}
 
 -- -- The records
 
 -- without records there is only the padding
-pub settled-none : (P : Profile) (n k room at : ℕ) (bs : List ℕ) → k ≡ 0 → at + 8 * k + room ≤ length bs
-    → settled P 0 (at + 8 * k + room) ≡ judgeAt (records P n k room) at bs
+pub settled-none : (P : Profile) (n seen k room at : ℕ) (bs : List ℕ) → k ≡ 0 → at + 8 * k + room ≤ length bs
+    → Settles P n seen k room at bs 0
 unfolding settled last
-settled-none P n k room at bs e h = padding (omega arith) ∙ records-none P n k room at bs e
+settled-none P n seen k room at bs e h = padding (omega arith) ∙ records-none P n seen k room at bs e
   where
     padding : at + 8 * k + room ≡ at + room → Whole (P .kind) (at + 8 * k + room) ≡ judgeAt (last P room) at bs
     padding f =
@@ -53,106 +51,111 @@ pub settled-bad : (P : Profile) (r end : ℕ) {j : Judgement} → settled P r en
 unfolding settled
 settled-bad P r end e h = rw (ne-eqb r 0 h) at e
 
--- what is settled of the bytes behind an offset is settled there
-settled-moved : (P : Profile) (p : Form) (r e d : ℕ) (xs : List ℕ) → settled P r e ≡ judge p 0 xs → settled P r (d + e) ≡ judge p d xs
-unfolding settled
-settled-moved P p r e d xs h =
-    sym (cond-apply (moved d) (eqb r 0) (Whole (P .kind) e) (Bad r)) ∙ ap (moved d) h ∙ sym (judge-moved p d 0 xs)
-    ∙ ap (λ (i : ℕ). judge p i xs) (add-zero d)
-
--- the walk over the part behind an offset settles the records there
-settled-part : (P : Profile) (p : Form) (r e d : ℕ) (bs : List ℕ) → settled P r e ≡ judgeAt p 0 (take (length bs - d) (drop d bs))
-    → settled P r (d + e) ≡ judgeAt p d bs
-settled-part P p r e d bs h = settled-moved P p r e d (drop d bs) (h ∙ ap (judge p 0) (part-drop bs d))
-
--- what settles records in the part behind an offset settles them there
-pub settles-part : (P : Profile) (n k room r d : ℕ) (bs : List ℕ) → Settles P n k room (take (length bs - d) (drop d bs)) r
-    → settled P r (d + 8 * k + room) ≡ judgeAt (records P n k room) d bs
-settles-part P n k room r d bs h = ap (settled P r) (omega arith) ∙ settled-part P (records P n k room) r (8 * k + room) d bs h
-
--- the same of one dialect is the same of an equal one
-pub settles-as : {d e : PacketDialect} (n k room : ℕ) (bs : List ℕ) (r : ℕ) → d ≡ e → Settles (profileOf d) n k room bs r
-    → Settles (profileOf e) n k room bs r
-settles-as n k room bs r h = subst (λ (d : PacketDialect). Settles (profileOf d) n k room bs r) h
-
--- what the code has read of the first record: its type with its rule, and its payload length with its test
-pub record FirstRead (P : Profile) (n k room : ℕ) (bs : List ℕ) (type : ℕ) (rule : Rule) (m : ℕ) (l : Bool) : Type 0 where
+-- what the code has read of the first record's type: the type with its mark
+pub record TypeRead (P : Profile) (k at : ℕ) (bs : List ℕ) (type mark : ℕ) : Type 0 where
   pub some : k ≡ 0 → ⊥
-  pub type-is : type ≡ littleAt 4 0 bs
+  pub type-is : type ≡ littleAt 4 at bs
+  pub mark-is : mark ≡ P .mark type
+
+-- the type's mark is among those seen
+pub settled-repeat : (P : Profile) (n seen room : ℕ) {k at : ℕ} {bs : List ℕ} {type mark : ℕ} → TypeRead P k at bs type mark
+    → (bitAnd seen mark ≡ 0 → ⊥) → at + 4 ≤ length bs → Settles P n seen k room at bs 25
+unfolding settled
+settled-repeat P n seen room {k} {at} {bs} {type} {mark} t seen-it h = go k (t .some)
+  where
+    repeats : fresh P seen (littleAt 4 at bs) ≡ false
+    repeats = rw (← (t .type-is)) (seen-again P seen type (t .mark-is) seen-it)
+
+    go : (k : ℕ) → (k ≡ 0 → ⊥) → Settles P n seen k room at bs 25
+    go zero e = absurd (e refl)
+    go (suc k) e = sym (type-refuses P n seen k room at bs h (type-repeats P n seen (suc k) room (littleAt 4 at bs) repeats))
+
+-- what the code has read of the first record: its type, which is fresh, with its rule, and its payload length with its test
+pub record FirstRead (P : Profile) (n seen k room at : ℕ) (bs : List ℕ) (type mark : ℕ) (rule : Rule) (m : ℕ) (l : Bool) : Type 0 where
+  pub type-read : TypeRead P k at bs type mark
+  pub unseen : bitAnd seen mark ≡ 0
   pub rule-is : rule ≡ P .rule type n
-  pub length-is : m ≡ littleAt 4 4 bs
+  pub length-is : m ≡ littleAt 4 (at + 4) bs
   pub test-is : l ≡ lengthOk P rule k room m
 
-module _ (P : Profile) {n k room : ℕ} {bs : List ℕ} {type : ℕ} {rule : Rule} {m : ℕ} {l : Bool}
-    (first : FirstRead P n k room bs type rule m l) where
-  abbrev R : Rule
-  R = P .rule (littleAt 4 0 bs) n
+module _ (P : Profile) {n seen k room at : ℕ} {bs : List ℕ} {type mark : ℕ} {rule : Rule} {m : ℕ} {l : Bool}
+    (first : FirstRead P n seen k room at bs type mark rule m l) where
+  abbrev T : ℕ
+  T = littleAt 4 at bs
 
-  length-says : (v : Bool) → l ≡ v → lengthOk P R k room (littleAt 4 4 bs) ≡ v
+  abbrev M : ℕ
+  M = littleAt 4 (at + 4) bs
+
+  is-fresh : fresh P seen T ≡ true
+  is-fresh = rw (← (first .type-read .type-is)) (unseen P seen type (first .type-read .mark-is) (first .unseen))
+
+  length-says : (v : Bool) → l ≡ v → lengthOk P (P .rule T n) k room M ≡ v
   length-says v e =
-      ap (λ (rule : Rule). lengthOk P rule k room (littleAt 4 4 bs)) (sym (first .rule-is ∙ ap (λ (i : ℕ). P .rule i n) (first .type-is)))
+      ap (λ (rule : Rule). lengthOk P rule k room M) (sym (first .rule-is ∙ ap (λ (i : ℕ). P .rule i n) (first .type-read .type-is)))
       ∙ ap (lengthOk P rule k room) (sym (first .length-is)) ∙ sym (first .test-is) ∙ e
 
   -- the length does not pass: the type is refused, or else the length
-  pub settled-refused : {r : ℕ} → l ≡ false → r ≡ cond (typeOk P n k room type) 24 23 → 8 ≤ length bs → Settles P n k room bs r
-  unfolding settled entry
+  pub settled-refused : {r : ℕ} → l ≡ false → r ≡ cond (typeOk P n k room type) 24 23 → at + 8 ≤ length bs → Settles P n seen k room at bs r
+  unfolding settled
   settled-refused {r} e r-is h =
-      go (typeOk P n k room type) (ap (typeOk P n k room) (sym (first .type-is))) r-is
-      ∙ ap (λ (p : Form). judgeAt p 0 bs) (sym (records-more P n k room (first .some)))
+      go k (first .type-read .some) (typeOk P n k room T) refl (length-says false e)
+      (r-is ∙ ap (λ (t : ℕ). cond (typeOk P n k room t) 24 23) (first .type-read .type-is))
     where
-      go : (t : Bool) → typeOk P n k room (littleAt 4 0 bs) ≡ t → r ≡ cond t 24 23
-          → cond (eqb r 0) (Whole (P .kind) (8 * k + room)) (Bad r) ≡ judgeAt (entry P n k room >>= (λ m. records P n (k - 1) (room - m)))
-          0 bs
-      go true a f = rw f (stop _ _ 0 bs (stop _ _ 4 bs (four-bad 24 (lengthOk P R k room) 4 bs h (length-says false e))
-          ∙ sym (field-on 23 (typeOk P n k room) _ 0 bs (omega arith, a))))
-      go false a f = rw f (stop _ _ 0 bs (stop _ _ 0 bs (four-bad 23 (typeOk P n k room) 0 bs (omega arith) a)))
+      go : (k : ℕ) → (k ≡ 0 → ⊥) → (t : Bool) → typeOk P n k room T ≡ t → lengthOk P (P .rule T n) k room M ≡ false → r ≡ cond t 24 23
+          → Settles P n seen k room at bs r
+      go zero s t a f g = absurd (s refl)
+      go (suc k) s true a f g = rw g (sym (length-refuses P n seen k room at bs is-fresh a (omega arith, f)))
+      go (suc k) s false a f g =
+          rw g (sym (type-refuses P n seen k room at bs (omega arith) (type-unfit P n seen (suc k) room T is-fresh a)))
 
-  module _ (passes : l ≡ true) (there : 8 * k + room ≤ length bs) where
+  module _ (passes : l ≡ true) where
     -- the payload lies in the room
     pub length-within : m ≤ room
-    length-within = rw (first .length-is) (passed-fits P R k room (littleAt 4 4 bs) (length-says true passes))
+    length-within = rw (first .length-is) (passed-fits P (P .rule T n) k room M (length-says true passes))
 
-    -- the record lies in the bytes
-    pub record-within : 8 + m ≤ length bs
-    record-within = go k (first .some) length-within there
+    -- the record lies before the end of all of them, which is that of the remaining ones behind it
+    pub record-within : at + 8 + m ≤ at + 8 * k + room
+    record-within = go k (first .type-read .some) length-within
       where
-        go : (k : ℕ) → (k ≡ 0 → ⊥) → m ≤ room → 8 * k + room ≤ length bs → 8 + m ≤ length bs
-        go zero s f h = absurd (s refl)
-        go (suc k) s f h = omega arith
+        go : (k : ℕ) → (k ≡ 0 → ⊥) → m ≤ room → at + 8 + m ≤ at + 8 * k + room
+        go zero s f = absurd (s refl)
+        go (suc k) s f = omega arith
+
+    pub same-end : at + 8 * k + room ≡ at + 8 + m + 8 * (k - 1) + (room - m)
+    same-end = go k (first .type-read .some) length-within
+      where
+        go : (k : ℕ) → (k ≡ 0 → ⊥) → m ≤ room → at + 8 * k + room ≡ at + 8 + m + 8 * (k - 1) + (room - m)
+        go zero s f = absurd (s refl)
+        go (suc k) s f = omega arith
+
+  module _ (passes : l ≡ true) (there : at + 8 * k + room ≤ length bs) where
+    in-bytes : at + 8 + m ≤ length bs
+    in-bytes = omega (arith, record-within passes)
 
     -- the length passes, and with it the type: the remaining records are judged behind this one
-    record-passed : judgeAt (records P n (k - 1) (room - m)) (8 + m) bs ≡ judgeAt (records P n k room) 0 bs
+    record-passed : judgeAt (records P n (bitOr seen mark) (k - 1) (room - m)) (at + 8 + m) bs ≡ judgeAt (records P n seen k room) at bs
     unfolding typeOk
-    record-passed = rw (first .length-is) (
-        let type-passes = length-type P R k room (littleAt 4 4 bs) (first .some) (length-says true passes) in
-        let within = rw (first .length-is) at record-within in
-        let whole-record = entry-whole P n k room 0 bs within type-passes (length-says true passes) in
-        sym (ap (λ (p : Form). judgeAt p 0 bs) (records-more P n k room (first .some))
-        ∙ go-on (entry P n k room) (λ m. records P n (k - 1) (room - m)) 0 bs (sym whole-record) refl))
+    record-passed = rw (seen-with P seen type (first .type-read .mark-is), first .type-read .type-is, first .length-is)
+        (go k (first .type-read .some) (length-says true passes) (rw (first .length-is) at in-bytes))
+      where
+        go : (k : ℕ) → (k ≡ 0 → ⊥) → lengthOk P (P .rule T n) k room M ≡ true → at + 8 + M ≤ length bs
+            → judgeAt (records P n (see P seen T) (k - 1) (room - M)) (at + 8 + M) bs ≡ judgeAt (records P n seen k room) at bs
+        go zero s f h = absurd (s refl)
+        go (suc k) s f h =
+            let one-less : suc k - 1 ≡ k = omega arith in
+            let type-ok = length-type P (P .rule T n) (suc k) room M s f in
+            ap (λ (j : ℕ). judgeAt (records P n (see P seen T) j (room - M)) (at + 8 + M) bs) one-less
+            ∙ sym (entry-on P n seen k room at bs is-fresh type-ok f h)
 
     -- so what is settled of them is settled of all
-    pub settled-more : (r : ℕ) → Settles P n (k - 1) (room - m) (take (length bs - (8 + m)) (drop (8 + m) bs)) r → Settles P n k room bs r
-    settled-more r j =
-        ap (settled P r) (same k (first .some) length-within)
-        ∙ settled-part P (records P n (k - 1) (room - m)) r (8 * (k - 1) + (room - m)) (8 + m) bs j ∙ record-passed
-      where
-        same : (k : ℕ) → (k ≡ 0 → ⊥) → m ≤ room → 8 * k + room ≡ 8 + m + (8 * (k - 1) + (room - m))
-        same zero s f = absurd (s refl)
-        same (suc k) s f = omega arith
-
-    -- the remaining records lie in the part behind it
-    pub rest-within : 8 * (k - 1) + (room - m) ≤ length (take (length bs - (8 + m)) (drop (8 + m) bs))
-    rest-within = rw (part-drop bs (8 + m), length-drop (8 + m) bs) (go k (first .some) length-within there)
-      where
-        go : (k : ℕ) → (k ≡ 0 → ⊥) → m ≤ room → 8 * k + room ≤ length bs → 8 * (k - 1) + (room - m) ≤ length bs - (8 + m)
-        go zero s f h = absurd (s refl)
-        go (suc k) s f h = omega arith
+    pub settled-more : (r : ℕ) → Settles P n (bitOr seen mark) (k - 1) (room - m) (at + 8 + m) bs r → Settles P n seen k room at bs r
+    settled-more r j = ap (settled P r) (same-end passes) ∙ j ∙ record-passed
 
     -- the last record: only padding is left
-    pub settled-last : k ≡ 1 → Settles P n k room bs 0
+    pub settled-last : k ≡ 1 → Settles P n seen k room at bs 0
     settled-last one =
-        ap (settled P 0) (omega (arith, length-within))
-        ∙ settled-none P n (k - 1) (room - m) (8 + m) bs (omega arith) (omega (arith, length-within)) ∙ record-passed
+        let rest : at + 8 + m + 8 * (k - 1) + (room - m) ≤ length bs = omega (arith, same-end passes) in
+        settled-more 0 (settled-none P n (bitOr seen mark) (k - 1) (room - m) (at + 8 + m) bs (omega arith) rest)
 
 -- -- The header
 
@@ -205,11 +208,11 @@ module _ (P : Profile) (bs : List ℕ) (there : 40 ≤ length bs) where
           header-subframe e = sym (bad-exactly P bs 26 .1 (at-subframe before-subframe there (subframe-says false e)))
 
           -- all pass: the records are judged behind the header
-          pub header-passed : z ≡ true → judgeAt (records P n k (l - (40 + 8 * k))) 40 bs ≡ judge (packet P) 0 bs
+          pub header-passed : z ≡ true → judgeAt (records P n 0 k (l - (40 + 8 * k))) 40 bs ≡ judge (packet P) 0 bs
           header-passed e =
-              ap (λ (l : ℕ). judgeAt (records P n k (l - (40 + 8 * k))) 40 bs) l-is
-              ∙ ap (λ (n : ℕ). judgeAt (records P n k (littleAt 4 12 bs - (40 + 8 * k))) 40 bs) n-is
-              ∙ ap (λ (k : ℕ). judgeAt (records P (littleAt 4 28 bs) k (littleAt 4 12 bs - (40 + 8 * k))) 40 bs) k-is
+              ap (λ (l : ℕ). judgeAt (records P n 0 k (l - (40 + 8 * k))) 40 bs) l-is
+              ∙ ap (λ (n : ℕ). judgeAt (records P n 0 k (littleAt 4 12 bs - (40 + 8 * k))) 40 bs) n-is
+              ∙ ap (λ (k : ℕ). judgeAt (records P (littleAt 4 28 bs) 0 k (littleAt 4 12 bs - (40 + 8 * k))) 40 bs) k-is
               ∙ sym (header-on P bs (holds-subframe before-subframe (subframe-says true e)) there)
 
 -- -- The magic

@@ -2,19 +2,21 @@
 -- (`frame-exactly-if-laid`, `bad-exactly`, `inside-exactly`).
 use mathlib.Core.Bool.{true, false}
 use mathlib.Core.Path.{_≡_}
-use mathlib.Core.List.{List}
+use mathlib.Core.List.{List, [], _∷_}
 use Prim.Native.Nat.{ℕ, suc, _+_, _-_, _*_, _<_, _≤_}
 use lib.ListN.{length, take}
 use Rattle.digits.specs.LittleEndian.{littleAt}
 use Rattle.form.specs.Pieces.{Broken, Cut}
-use Rattle.mmwave.specs.Profile.{Profile, legal, countOk, typeOk, lengthOk}
+use Rattle.mmwave.specs.Profile.{Profile, legal, countOk, fresh, typeOk, lengthOk, seenIn}
 use Rattle.mmwave.specs.Packet.{magic}
 
--- k records stand right behind one another from offset p to e, each of a payload length that is legal for its type
-pub data Records (P : Profile) (bs : List ℕ) (n : ℕ) : ℕ → ℕ → ℕ → Type 0 where
-  none : {p : ℕ} → Records P bs n 0 p p
-  more : {k p e : ℕ} → legal (P .rule (littleAt 4 p bs) n) (littleAt 4 (p + 4) bs) ≡ true
-      → Records P bs n k (p + 8 + littleAt 4 (p + 4) bs) e → Records P bs n (suc k) p e
+-- behind records of types ts, the last one first, k records stand right behind one another from offset p to e, each of a type that those
+-- before it leave and of a payload length that is legal for its type
+pub data Records (P : Profile) (bs : List ℕ) (n : ℕ) : List ℕ → ℕ → ℕ → ℕ → Type 0 where
+  none : {ts : List ℕ} {p : ℕ} → Records P bs n ts 0 p p
+  more : {ts : List ℕ} {k p e : ℕ} → fresh P (seenIn P ts) (littleAt 4 p bs) ≡ true
+      → legal (P .rule (littleAt 4 p bs) n) (littleAt 4 (p + 4) bs) ≡ true
+      → Records P bs n (littleAt 4 p bs ∷ ts) k (p + 8 + littleAt 4 (p + 4) bs) e → Records P bs n ts (suc k) p e
 
 -- the bytes are one packet: the header's fields at their offsets, the records from offset 40 on, and the padding
 pub record Laid (P : Profile) (bs : List ℕ) : Type 0 where
@@ -25,7 +27,7 @@ pub record Laid (P : Profile) (bs : List ℕ) : Type 0 where
   pub count : littleAt 4 32 bs ≤ 32
   pub subframe : P .subframe (littleAt 4 36 bs) ≡ true
   pub end : ℕ
-  pub records : Records P bs (littleAt 4 28 bs) (littleAt 4 32 bs) 40 end
+  pub records : Records P bs (littleAt 4 28 bs) [] (littleAt 4 32 bs) 40 end
   pub above : end ≤ length bs
   pub padding : length bs - end ≤ P .padding
 
@@ -39,14 +41,16 @@ pub record HoldsBefore (P : Profile) (bs : List ℕ) (at : ℕ) : Type 0 where
   pub count : 32 < at → countOk P (littleAt 4 12 bs) (littleAt 4 32 bs) ≡ true
   pub subframe : 36 < at → P .subframe (littleAt 4 36 bs) ≡ true
 
--- every check before offset p holds, the records before it are there, and k records with this room are left
-pub data Reached (P : Profile) (bs : List ℕ) : ℕ → ℕ → ℕ → Type 0 where
+-- every check before offset p holds, the records before it are there with the types ts, the last one first, and k records with this room
+-- are left
+pub data Reached (P : Profile) (bs : List ℕ) : List ℕ → ℕ → ℕ → ℕ → Type 0 where
   first : HoldsBefore P bs 40 → 40 ≤ length bs
-      → Reached P bs (littleAt 4 32 bs) 40 (littleAt 4 12 bs - (40 + 8 * littleAt 4 32 bs))
-  next : {k p room : ℕ} → Reached P bs (suc k) p room → typeOk P (littleAt 4 28 bs) (suc k) room (littleAt 4 p bs) ≡ true
+      → Reached P bs [] (littleAt 4 32 bs) 40 (littleAt 4 12 bs - (40 + 8 * littleAt 4 32 bs))
+  next : {ts : List ℕ} {k p room : ℕ} → Reached P bs ts (suc k) p room → fresh P (seenIn P ts) (littleAt 4 p bs) ≡ true
+      → typeOk P (littleAt 4 28 bs) (suc k) room (littleAt 4 p bs) ≡ true
       → lengthOk P (P .rule (littleAt 4 p bs) (littleAt 4 28 bs)) (suc k) room (littleAt 4 (p + 4) bs) ≡ true
       → p + 8 + littleAt 4 (p + 4) bs ≤ length bs
-      → Reached P bs k (p + 8 + littleAt 4 (p + 4) bs) (room - littleAt 4 (p + 4) bs)
+      → Reached P bs (littleAt 4 p bs ∷ ts) k (p + 8 + littleAt 4 (p + 4) bs) (room - littleAt 4 (p + 4) bs)
 
 -- a check that is due fails and every check before it holds: the first that fails gives the reason (paper 01, "Judging a place")
 pub data Refused (P : Profile) (bs : List ℕ) : ℕ → Type 0 where
@@ -55,16 +59,19 @@ pub data Refused (P : Profile) (bs : List ℕ) : ℕ → Type 0 where
   at-objects : HoldsBefore P bs 28 → 32 ≤ length bs → P .objects (littleAt 4 28 bs) ≡ false → Refused P bs 26
   at-count : HoldsBefore P bs 32 → 36 ≤ length bs → countOk P (littleAt 4 12 bs) (littleAt 4 32 bs) ≡ false → Refused P bs 22
   at-subframe : HoldsBefore P bs 36 → 40 ≤ length bs → P .subframe (littleAt 4 36 bs) ≡ false → Refused P bs 26
-  at-type : {k p room : ℕ} → Reached P bs (suc k) p room → p + 4 ≤ length bs
+  at-repeat : {ts : List ℕ} {k p room : ℕ} → Reached P bs ts (suc k) p room → p + 4 ≤ length bs
+      → fresh P (seenIn P ts) (littleAt 4 p bs) ≡ false → Refused P bs 25
+  at-type : {ts : List ℕ} {k p room : ℕ} → Reached P bs ts (suc k) p room → p + 4 ≤ length bs
+      → fresh P (seenIn P ts) (littleAt 4 p bs) ≡ true
       → typeOk P (littleAt 4 28 bs) (suc k) room (littleAt 4 p bs) ≡ false → Refused P bs 23
-  at-length : {k p room : ℕ} → Reached P bs (suc k) p room → p + 8 ≤ length bs
-      → typeOk P (littleAt 4 28 bs) (suc k) room (littleAt 4 p bs) ≡ true
+  at-length : {ts : List ℕ} {k p room : ℕ} → Reached P bs ts (suc k) p room → p + 8 ≤ length bs
+      → fresh P (seenIn P ts) (littleAt 4 p bs) ≡ true → typeOk P (littleAt 4 28 bs) (suc k) room (littleAt 4 p bs) ≡ true
       → lengthOk P (P .rule (littleAt 4 p bs) (littleAt 4 28 bs)) (suc k) room (littleAt 4 (p + 4) bs) ≡ false → Refused P bs 24
 
 -- the bytes end inside a four-byte field, by the profile's tests; the papers' own words are `EndsInField`.
 -- The fields are the eight of the header behind the magic, at 8, 12, .. 36, and those of the record at p
 pub data EndsInside (P : Profile) (bs : List ℕ) : Type 0 where
   in-header : (i : ℕ) → i < 8 → HoldsBefore P bs (8 + 4 * i) → Cut (8 + 4 * i) bs → EndsInside P bs
-  in-type : {k p room : ℕ} → Reached P bs (suc k) p room → Cut p bs → EndsInside P bs
-  in-length : {k p room : ℕ} → Reached P bs (suc k) p room → typeOk P (littleAt 4 28 bs) (suc k) room (littleAt 4 p bs) ≡ true
-      → Cut (p + 4) bs → EndsInside P bs
+  in-type : {ts : List ℕ} {k p room : ℕ} → Reached P bs ts (suc k) p room → Cut p bs → EndsInside P bs
+  in-length : {ts : List ℕ} {k p room : ℕ} → Reached P bs ts (suc k) p room → fresh P (seenIn P ts) (littleAt 4 p bs) ≡ true
+      → typeOk P (littleAt 4 28 bs) (suc k) room (littleAt 4 p bs) ≡ true → Cut (p + 4) bs → EndsInside P bs

@@ -9,8 +9,6 @@ use Rattle.form.specs.declared.Judgement.{Judgement}
 use Rattle.form.specs.declared.Judgement.the-variants.{Whole, Bad}
 use Rattle.mmwave.specs.declared.Unit.{Unit}
 use Rattle.mmwave.specs.declared.Unit.the-variants.{Two, Four, Sixteen}
-use Rattle.mmwave.specs.declared.PacketDialect.{PacketDialect}
-use Rattle.mmwave.specs.declared.PacketDialect.the-variants.{MmWave, VitalSigns}
 use Rattle.mmwave.specs.Profile.{Profile}
 use Rattle.mmwave.specs.Packet.{records}
 
@@ -18,16 +16,12 @@ use Rattle.mmwave.specs.Packet.{records}
 unfoldable pub settled : Profile → ℕ → ℕ → Judgement
 settled P reason end = cond (eqb reason 0) (Whole (P .kind) end) (Bad reason)
 
--- the walk over k records that the bytes begin with settles them so
-abbrev pub Settles : Profile → ℕ → ℕ → ℕ → List ℕ → ℕ → Type 0
-Settles P n k room bs reason = settled P reason (8 * k + room) ≡ judgeAt (records P n k room) 0 bs
+-- the walk over k records from an offset on, behind others whose types have been seen, settles them so
+abbrev pub Settles : Profile → ℕ → ℕ → ℕ → ℕ → ℕ → List ℕ → ℕ → Type 0
+Settles P n seen k room at bs reason = settled P reason (at + 8 * k + room) ≡ judgeAt (records P n seen k room) at bs
 
 -- the bits below a unit
 abbrev pub lowBits : Unit → ℕ
 lowBits Two = 1
 lowBits Four = 3
 lowBits Sixteen = 15
-
--- the dialect with this kind, 16 or else 17
-unfoldable pub dialectOfKind : ℕ → PacketDialect
-dialectOfKind kind = cond (eqb kind 16) MmWave VitalSigns

@@ -1,6 +1,6 @@
 -- The profile of the mmWave demo's packets (paper 01, "mmWave"; document 004).
 use mathlib.Core.Bool.{Bool, false, cond, _&&_}
-use Prim.Native.Nat.{ℕ, _*_, _%_}
+use Prim.Native.Nat.{ℕ, _*_, _%_, _^_}
 use lib.Dec.{eqb, leb}
 use Rattle.form.specs.Pieces.{any}
 use Rattle.mmwave.specs.declared.Rule.{Rule}
@@ -29,6 +29,14 @@ payloadRule type n =
     (cond (eqb type 8) (Multiple Four)
     (cond (eqb type 9) (Exact 28) Free))))))))
 
+-- a bit of its own for each known type (1 to 9), but one for 4 and 8 (paper 02, (vii)); 0: no bit
+unfoldable pub onceBit : ℕ → ℕ
+onceBit type = cond (eqb type 8) 4 (cond (leb type 9) type 0)
+
+-- the mark of a type among those seen: its bit; types with one mark exclude one another
+unfoldable pub onceMark : ℕ → ℕ
+onceMark type = cond (eqb (onceBit type) 0) 0 (2 ^ onceBit type)
+
 -- the profile; L is the smallest multiple of 32 not below the end of the last record, so the padding is at most 31 bytes
 unfoldable pub mmWave : Profile
 mmWave = record {
@@ -37,6 +45,7 @@ mmWave = record {
   objects = any;
   subframe = any;
   rule = payloadRule;
+  mark = onceMark;
   padding = 31;
   unit = 1;
 }

@@ -19,7 +19,7 @@ vitalRule type =
     (cond (eqb type 3) (Multiple Sixteen)
     (cond (eqb type 4) (Exact 20) Never)))
 
--- the profile: 99 at offset 28, subframe 0; L is exactly the end of the last record, so there is no padding
+-- the profile: 99 at offset 28, subframe 0; L is exactly the end of the last record, so there is no padding; every type may repeat
 unfoldable pub vitalSigns : Profile
 vitalSigns = record {
   kind = 17;
@@ -27,6 +27,7 @@ vitalSigns = record {
   objects = λ n. eqb n 99;
   subframe = λ v. eqb v 0;
   rule = λ type n. vitalRule type;
+  mark = λ type. 0;
   padding = 0;
   unit = 4;
 }

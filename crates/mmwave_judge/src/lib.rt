@@ -51,7 +51,7 @@ fn number(s: &[u8], at: usize) -> u32
 // What follows the header, with a total length and a record count that passed.
 fn behind_header(s: &[u8], l: u32, objects: u32, k: u32, d: PacketDialect) -> Judgement
     requires { ⌜ 40 + 8 * k ≤ l ⌝ }
-    ensures { λ r. ⌜ r ≡ judgeAt (records (profileOf d) objects k (l - (40 + 8 * k))) 40 (now (s .entry)) ⌝ }
+    ensures { λ r. ⌜ r ≡ judgeAt (records (profileOf d) objects 0 k (l - (40 + 8 * k))) 40 (now (s .entry)) ⌝ }
 {
     let room = (l as usize - (Header::SIZE + 8 * (k as usize))) as u32;
     judge_records(s, objects, k, room, d)
@@ -83,8 +83,8 @@ fn judge_header(s: &[u8], d: PacketDialect) -> Judgement
     Judgement::Bad(NO_MAGIC)
 }
 
-// The judgement of the bytes as a packet of a dialect from their first on: its kind, 16 or 17, with the length, a reason from 20 to 24 or
-// 26, or waiting.
+// The judgement of the bytes as a packet of a dialect from their first on: its kind, 16 or 17, with the length, a reason from 20 to 26,
+// or waiting.
 pub fn judge(bytes: &[u8], d: PacketDialect) -> Judgement
     ensures { λ r. ⌜ Judges (packet (profileOf d)) 0 (now (bytes .entry)) r ⌝ }
 {

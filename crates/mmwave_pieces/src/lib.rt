@@ -2,7 +2,7 @@
 ghost use mathlib.Core.Path.{_≡_};
 ghost use Rattle.form.specs.Form.{judgeAt};
 ghost use Rattle.form.specs.Numbers.{Judges};
-ghost use Rattle.form.specs.Pieces.{four, marker};
+ghost use Rattle.form.specs.Pieces.{always, four, marker};
 ghost use Rattle.mmwave.specs.Packet.{magic, counted, packet};
 ghost use Rattle.mmwave.specs.Dialects.{profileOf};
 ghost use Rattle.mmwave_pieces.specs.Internal.{reasonOf, testOf};
@@ -80,7 +80,7 @@ fn passes(check: Check, v: u32, d: PacketDialect) -> bool
 
 // A field of the header, and its test.
 fn checked_at(s: &[u8], at: usize, check: Check, d: PacketDialect) -> Judgement
-    ensures { λ r. ⌜ r ≡ judgeAt (four (reasonOf check) (testOf (profileOf d) check)) at (now (s .entry)) ⌝ }
+    ensures { λ r. ⌜ r ≡ judgeAt (four (always (reasonOf check)) (testOf (profileOf d) check)) at (now (s .entry)) ⌝ }
 {
     let a = form::number(s, at);
     let Judgement::Whole(v, e) = a else {
@@ -114,7 +114,7 @@ fn behind_total(s: &[u8], at: usize, l: u32, d: PacketDialect) -> Judgement
     };
     let used = Header::SIZE + 8 * (k as usize);
     let room = (l as usize) - used;
-    walk(s, j, objects, k, room as u32, d)
+    walk(s, j, objects, 0, k, room as u32, d)
 }
 
 // The judgement piece by piece, which fits any number of bytes.

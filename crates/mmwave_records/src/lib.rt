@@ -1,10 +1,9 @@
-// The records of a packet and its padding, judged piece by piece in byte order (paper 01, "mmWave" and "Judging a place"; paper 02, (i)).
+// The records of a packet and its padding, judged piece by piece in byte order (paper 01, "mmWave" and "Judging a place"; paper 02, (i) and
+// (vii)).
 ghost use mathlib.Core.Path.{_≡_};
 ghost use Rattle.form.specs.Form.{judgeAt};
 ghost use Rattle.form.specs.Numbers.{Judges};
-ghost use Rattle.form.specs.Pieces.{four};
-ghost use Rattle.mmwave.specs.Profile.{lengthOk, typeOk};
-ghost use Rattle.mmwave.specs.Packet.{entry, last, records};
+ghost use Rattle.mmwave.specs.Packet.{typeField, payload, last, records};
 ghost use Rattle.mmwave.specs.Dialects.{profileOf};
 use form::Judgement;
 use mmwave::PacketDialect;
@@ -12,59 +11,57 @@ use mmwave::Rule;
 use mmwave_dialects::kind_of;
 use mmwave_lengths::length_ok;
 use mmwave_lengths::type_ok;
+use mmwave_rules::mark_of;
 use mmwave_rules::rule_of;
 
-// Reasons (paper 01, "Judging a place").
+// Reasons (paper 01, "Judging a place"; paper 02, (vii)).
 pub const BAD_TYPE: u32 = 23;
 
 pub const BAD_LENGTH: u32 = 24;
 
-// A record's type.
-fn type_at(s: &[u8], at: usize, objects: u32, k: u32, room: u32, d: PacketDialect) -> Judgement
-    ensures { λ r. ⌜ r ≡ judgeAt (four 23 (typeOk (profileOf d) objects k room)) at (now (s .entry)) ⌝ }
+pub const BAD_REPEATED: u32 = 25;
+
+// A record's type, behind records whose types have been seen.
+fn type_at(
+    s: &[u8],
+    at: usize,
+    objects: u32,
+    seen: u32,
+    k: u32,
+    room: u32,
+    d: PacketDialect,
+) -> Judgement
+    ensures { λ r. ⌜ r ≡ judgeAt (typeField (profileOf d) objects seen k room) at (now (s .entry)) ⌝ }
 {
     let a = form::number(s, at);
     let Judgement::Whole(tag, e) = a else {
         return a;
     };
+    if seen & mark_of(tag, d) != 0 {
+        return Judgement::Bad(BAD_REPEATED);
+    }
     if type_ok(tag, objects, k, room, d) {
         return Judgement::Whole(tag, e);
     }
     Judgement::Bad(BAD_TYPE)
 }
 
-// A record's payload length, by the rule of its type.
-fn length_at(s: &[u8], at: usize, rule: Rule, k: u32, room: u32, d: PacketDialect) -> Judgement
-    ensures { λ r. ⌜ r ≡ judgeAt (four 24 (lengthOk (profileOf d) rule k room)) at (now (s .entry)) ⌝ }
+// A record's payload length, by the rule of its type, and its payload: the length, and the offset behind the record.
+fn payload_at(s: &[u8], at: usize, rule: Rule, k: u32, room: u32, d: PacketDialect) -> Judgement
+    ensures { λ r. ⌜ r ≡ judgeAt (payload (profileOf d) rule k room) at (now (s .entry)) ⌝ }
 {
     let a = form::number(s, at);
-    let Judgement::Whole(m, e) = a else {
+    let Judgement::Whole(m, i) = a else {
         return a;
     };
     if length_ok(rule, k, room, m, d) {
+        let b = form::skip(s, i, m as usize);
+        let Judgement::Whole(_, e) = b else {
+            return b;
+        };
         return Judgement::Whole(m, e);
     }
     Judgement::Bad(BAD_LENGTH)
-}
-
-// The record at `at`, the first of `k` that are left: its payload length, and the offset behind it.
-fn record_at(s: &[u8], at: usize, objects: u32, k: u32, room: u32, d: PacketDialect) -> Judgement
-    ensures { λ r. ⌜ r ≡ judgeAt (entry (profileOf d) objects k room) at (now (s .entry)) ⌝ }
-{
-    let a = type_at(s, at, objects, k, room, d);
-    let Judgement::Whole(tag, i) = a else {
-        return a;
-    };
-    let rule = rule_of(tag, objects, d);
-    let b = length_at(s, i, rule, k, room, d);
-    let Judgement::Whole(m, j) = b else {
-        return b;
-    };
-    let f = form::skip(s, j, m as usize);
-    let Judgement::Whole(_, e) = f else {
-        return f;
-    };
-    Judgement::Whole(m, e)
 }
 
 // The padding, and with it the packet's end.
@@ -78,16 +75,28 @@ fn padding_at(s: &[u8], at: usize, room: u32, d: PacketDialect) -> Judgement
     Judgement::Whole(kind_of(d), e)
 }
 
-// The `k` records from `at` on, and the padding: the first one, then the remaining ones right behind it.
-pub fn walk(s: &[u8], at: usize, objects: u32, k: u32, room: u32, d: PacketDialect) -> Judgement
-    ensures { λ r. ⌜ Judges (records (profileOf d) objects k room) at (now (s .entry)) r ⌝ }
+// The `k` records from `at` on, and the padding: the first one, then the remaining ones right behind it, with its type among those seen.
+pub fn walk(
+    s: &[u8],
+    at: usize,
+    objects: u32,
+    seen: u32,
+    k: u32,
+    room: u32,
+    d: PacketDialect,
+) -> Judgement
+    ensures { λ r. ⌜ Judges (records (profileOf d) objects seen k room) at (now (s .entry)) r ⌝ }
 {
     if k == 0 {
         return padding_at(s, at, room, d);
     }
-    let a = record_at(s, at, objects, k, room, d);
-    let Judgement::Whole(m, e) = a else {
+    let a = type_at(s, at, objects, seen, k, room, d);
+    let Judgement::Whole(tag, i) = a else {
         return a;
     };
-    walk(s, e, objects, k - 1, room - m, d)
+    let b = payload_at(s, i, rule_of(tag, objects, d), k, room, d);
+    let Judgement::Whole(m, e) = b else {
+        return b;
+    };
+    walk(s, e, objects, seen | mark_of(tag, d), k - 1, room - m, d)
 }

@@ -1,6 +1,7 @@
-// The payload lengths of a record's type, by the dialect (paper 01, "mmWave", document 004; paper 02, (i), document 002).
+// What a record's type says, by the dialect: the payload lengths, and which types exclude one another (paper 01, "mmWave", document 004;
+// paper 02, (i), document 002, and (vii)).
 ghost use mathlib.Core.Path.{_≡_};
-ghost use Rattle.mmwave.specs.MmWave.{perObject, payloadRule};
+ghost use Rattle.mmwave.specs.MmWave.{perObject, payloadRule, onceMark};
 ghost use Rattle.mmwave.specs.VitalSigns.{vitalRule};
 ghost use Rattle.mmwave.specs.Dialects.{profileOf};
 use mmwave::PacketDialect;
@@ -54,5 +55,33 @@ pub fn rule_of(tag: u32, objects: u32, d: PacketDialect) -> Rule
     match d {
         PacketDialect::MmWave => mmwave_rule(tag, objects),
         PacketDialect::VitalSigns => vital_rule(tag),
+    }
+}
+
+// A bit for each known type, one for 4 and 8: types with one bit exclude one another. Others have none.
+fn mmwave_mark(tag: u32) -> u32
+    ensures { λ r. ⌜ r ≡ onceMark tag ⌝ }
+{
+    match tag {
+        1 => 2,
+        2 => 4,
+        3 => 8,
+        4 => 16,
+        5 => 32,
+        6 => 64,
+        7 => 128,
+        8 => 16,
+        9 => 512,
+        _ => 0,
+    }
+}
+
+// The bit of a type among those seen; 0 for one that may repeat.
+pub fn mark_of(tag: u32, d: PacketDialect) -> u32
+    ensures { λ r. ⌜ r ≡ profileOf d .mark tag ⌝ }
+{
+    match d {
+        PacketDialect::MmWave => mmwave_mark(tag),
+        PacketDialect::VitalSigns => 0,
     }
 }

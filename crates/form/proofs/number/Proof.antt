@@ -1,19 +1,19 @@
 -- The field is there or waits; its value is the number of its four bytes.
 use borrow.Author.Needs.{needs}
 use native.Mathlib.Omega.{arith}
-use Rattle.form.specs.Pieces.{any}
+use Rattle.form.specs.Pieces.{any, always}
 use Rattle.form.proofs.PieceLaws.{judges, four-waits, number-there}
 use Rattle.form.proofs.number.Statement.{statement}
 use Rattle.form.proofs.number.Tie as tie
 
 returns : tie.Need-returns
-returns c = judges (four-waits 0 any _ _ (omega arith))
+returns c = judges (four-waits (always 0) any _ _ (omega arith))
 
 sub-if2 : tie.Need-sub-if2
 sub-if2 c = search needs
 
 returns-2 : tie.Need-returns-2
-returns-2 c = judges (four-waits 0 any _ _ (omega arith))
+returns-2 c = judges (four-waits (always 0) any _ _ (omega arith))
 
 shared-slice-read-join : tie.Need-shared-slice-read-join
 shared-slice-read-join c = search needs
