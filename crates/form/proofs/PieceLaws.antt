@@ -151,12 +151,6 @@ pub four-whole : (r : ℕ → ℕ) (t : ℕ → Bool) (at : ℕ) (bs : List ℕ)
 unfolding judge
 four-whole r t at bs h a = sym (word-step r t whole at bs h ∙ rw a)
 
--- a field that is there and does not pass is bad
-pub four-bad : (r : ℕ → ℕ) (t : ℕ → Bool) (at : ℕ) (bs : List ℕ) → at + 4 ≤ length bs → t (littleAt 4 at bs) ≡ false
-    → Bad (r (littleAt 4 at bs)) ≡ judgeAt (four r t) at bs
-unfolding judge
-four-bad r t at bs h a = sym (word-step r t whole at bs h ∙ rw a)
-
 -- the number of four bytes that are there, by the bytes
 pub little-there : (at : ℕ) (bs : List ℕ) → at + 4 ≤ length bs
     → fromLittle (getD bs at 0 ∷ getD bs (at + 1) 0 ∷ getD bs (at + 2) 0 ∷ getD bs (at + 3) 0 ∷ []) ≡ littleAt 4 at bs
@@ -379,31 +373,3 @@ marker-missed r (m ∷ ms) at (b ∷ xs) h n = go (eqb b m) refl (λ f. marker-m
 pub marker-other : (r : ℕ) (ms : List ℕ) (at : ℕ) (bs : List ℕ) → length ms ≤ length (drop at bs) → (take (length ms) (drop at bs) ≡ ms → ⊥)
     → Bad r ≡ judgeAt (marker r ms) at bs
 marker-other r ms at bs h n = marker-missed r ms at (drop at bs) h n
-
--- -- The judgement and the offset it starts from
-
--- a judgement whose end lies d further on
-abbrev pub moved : ℕ → Judgement → Judgement
-moved d (Whole k e) = Whole k (d + e)
-moved d (Bad r) = Bad r
-moved d Waiting = Waiting
-
-moved-cond : (t : Bool) (d r : ℕ) (x y : Judgement) → y ≡ moved d x → cond t y (Bad r) ≡ moved d (cond t x (Bad r))
-moved-cond true d r x y e = e
-moved-cond false d r x y e = refl
-
--- the offset only moves the end
-pub judge-moved : (p : Form) (d at : ℕ) (xs : List ℕ) → judge p (d + at) xs ≡ moved d (judge p at xs)
-unfolding judge
-judge-moved (whole v) d at xs = refl
-judge-moved (byte r t f) d at [] = refl
-judge-moved (byte r t f) d at (b ∷ xs) =
-    moved-cond (t b) d r (judge (f b) (at + 1) xs) (judge (f b) (d + at + 1) xs)
-    (ap (λ (i : ℕ). judge (f b) i xs) (omega arith) ∙ judge-moved (f b) d (at + 1) xs)
-judge-moved (word r t f) d at [] = refl
-judge-moved (word r t f) d at (a ∷ []) = refl
-judge-moved (word r t f) d at (a ∷ b ∷ []) = refl
-judge-moved (word r t f) d at (a ∷ b ∷ c ∷ []) = refl
-judge-moved (word r t f) d at (a ∷ b ∷ c ∷ e ∷ xs) = let v = fromLittle (a ∷ b ∷ c ∷ e ∷ []) in
-    moved-cond (t v) d (r v) (judge (f v) (at + 4) xs) (judge (f v) (d + at + 4) xs)
-    (ap (λ (i : ℕ). judge (f v) i xs) (omega arith) ∙ judge-moved (f v) d (at + 4) xs)

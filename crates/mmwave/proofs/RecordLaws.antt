@@ -131,7 +131,7 @@ abbrev pub behindType : Profile → ℕ → ℕ → ℕ → ℕ → ℕ → Form
 behindType P n seen k room type = payload P (P .rule type n) k room >>= (λ m. records P n (see P seen type) (k - 1) (room - m))
 
 -- the first one, then the remaining ones right behind it
-pub records-more : (P : Profile) (n seen k room : ℕ) → (k ≡ 0 → ⊥)
+records-more : (P : Profile) (n seen k room : ℕ) → (k ≡ 0 → ⊥)
     → records P n seen k room ≡ typeField P n seen k room >>= behindType P n seen k room
 unfolding records
 records-more P n seen zero room h = absurd (h refl)
@@ -142,6 +142,10 @@ records-more P n seen (suc k) room h = ap (λ (j : ℕ). typeField P n seen (suc
 
     e : k ≡ suc k - 1
     e = omega arith
+
+pub records-first : (P : Profile) (n seen k room at : ℕ) (bs : List ℕ) {r : Judgement} → (k ≡ 0 → ⊥)
+    → r ≡ judgeAt (typeField P n seen k room >>= behindType P n seen k room) at bs → r ≡ judgeAt (records P n seen k room) at bs
+records-first P n seen k room at bs s h = h ∙ sym (ap (λ (p : Form). judgeAt p at bs) (records-more P n seen k room s))
 
 -- a payload length that passed lies in the room
 pub passed-fits : (P : Profile) (rule : Rule) (k room m : ℕ) → lengthOk P rule k room m ≡ true → m ≤ room

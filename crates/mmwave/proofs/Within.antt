@@ -151,12 +151,6 @@ module _ (P : Profile) {n seen k room at : ℕ} {bs : List ℕ} {type mark : ℕ
     pub settled-more : (r : ℕ) → Settles P n (bitOr seen mark) (k - 1) (room - m) (at + 8 + m) bs r → Settles P n seen k room at bs r
     settled-more r j = ap (settled P r) (same-end passes) ∙ j ∙ record-passed
 
-    -- the last record: only padding is left
-    pub settled-last : k ≡ 1 → Settles P n seen k room at bs 0
-    settled-last one =
-        let rest : at + 8 + m + 8 * (k - 1) + (room - m) ≤ length bs = omega (arith, same-end passes) in
-        settled-more 0 (settled-none P n (bitOr seen mark) (k - 1) (room - m) (at + 8 + m) bs (omega arith) rest)
-
 -- -- The header
 
 module _ (P : Profile) (bs : List ℕ) (there : 40 ≤ length bs) where

@@ -35,7 +35,7 @@ fn field(s: &[u8], at: usize) -> u32
 fn refusal_of(tag: u32, objects: u32, k: u32, room: u32, d: PacketDialect) -> u32
     ensures { λ r. ⌜ r ≡ cond (typeOk (profileOf d) objects k room tag) 24 23 ⌝ }
 {
-    if type_ok(tag, objects, k, room, d) {
+    if type_ok(rule_of(tag, objects, d), k, room, d) {
         return BAD_LENGTH;
     }
     BAD_TYPE
@@ -53,9 +53,12 @@ fn walk_inside(
     room: u32,
     d: PacketDialect,
 ) -> u32
-    requires { ⌜ (0 < k) × (at + 8 * k + room ≤ length (now (now s))) × (at + 8 * k + room < 2 ^ 64) ⌝ }
+    requires { ⌜ (at + 8 * k + room ≤ length (now (now s))) × (at + 8 * k + room < 2 ^ 64) ⌝ }
     ensures { λ r. ⌜ Settles (profileOf d) objects seen k room at (now (now (s .entry))) r ⌝ }
 {
+    if k == 0 {
+        return 0;
+    }
     let tag = field(*s, at);
     let mark = mark_of(tag, d);
     if seen & mark != 0 {
@@ -64,24 +67,10 @@ fn walk_inside(
     let rule = rule_of(tag, objects, d);
     let m = field(*s, at + 4);
     if length_ok(rule, k, room, m, d) {
-        if k == 1 {
-            return 0;
-        }
         let next = at + 8 + (m as usize);
         return walk_inside(s, next, objects, seen | mark, k - 1, room - m, d);
     }
     refusal_of(tag, objects, k, room, d)
-}
-
-// The records of a packet whose bytes are all there; without records there is only padding.
-fn all_records(s: &[u8], objects: u32, k: u32, room: u32, d: PacketDialect) -> u32
-    requires { ⌜ 40 + 8 * k + room ≤ length (now s) ⌝ }
-    ensures { λ r. ⌜ Settles (profileOf d) objects 0 k room 40 (now (s .entry)) r ⌝ }
-{
-    if k == 0 {
-        return 0;
-    }
-    walk_inside(&s, Header::SIZE, objects, 0, k, room, d)
 }
 
 // The judgement of the `k` records behind a header, whose payloads and padding have this room; 23, 24, 25, or waiting.
@@ -92,7 +81,7 @@ pub fn judge_records(s: &[u8], objects: u32, k: u32, room: u32, d: PacketDialect
     if s.len() < total {
         return walk(s, Header::SIZE, objects, 0, k, room, d);
     }
-    let reason = all_records(s, objects, k, room, d);
+    let reason = walk_inside(&s, Header::SIZE, objects, 0, k, room, d);
     if reason == 0 {
         return Judgement::Whole(kind_of(d), total);
     }

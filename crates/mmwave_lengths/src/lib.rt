@@ -1,14 +1,14 @@
-// The tests of a record's type and payload length; how a length fits is said once (paper 01, "mmWave"; paper 02, (i)).
+// The tests of a record's type and payload length by the rule of the type; how a length fits is said once (paper 01, "mmWave"; paper 02,
+// (i)).
 ghost use mathlib.Core.Path.{_≡_};
 ghost use Prim.Native.Nat.{_%_};
-ghost use Rattle.mmwave.specs.Profile.{unitOf, legal, fits, possible, typeOk, lengthOk};
+ghost use Rattle.mmwave.specs.Profile.{unitOf, legal, fits, possible, lengthOk};
 ghost use Rattle.mmwave.specs.Dialects.{profileOf};
 ghost use Rattle.mmwave.specs.Internal.{lowBits};
 use mmwave::PacketDialect;
 use mmwave::Rule;
 use mmwave::Unit;
 use mmwave_dialects::padding_of;
-use mmwave_rules::rule_of;
 
 // The bits below a unit.
 fn low_bits(unit: Unit) -> u32
@@ -62,7 +62,7 @@ fn some_multiple_fits(k: u32, room: u32, unit: Unit, d: PacketDialect) -> bool
 }
 
 // Does some length of the rule fit?
-fn some_length_fits(k: u32, room: u32, rule: Rule, d: PacketDialect) -> bool
+pub fn type_ok(rule: Rule, k: u32, room: u32, d: PacketDialect) -> bool
     ensures { λ r. ⌜ r ≡ possible (profileOf d) k room rule ⌝ }
 {
     match rule {
@@ -71,13 +71,6 @@ fn some_length_fits(k: u32, room: u32, rule: Rule, d: PacketDialect) -> bool
         Rule::Multiple(unit) => some_multiple_fits(k, room, unit, d),
         Rule::Free => true,
     }
-}
-
-// Does some legal payload length of this type fit?
-pub fn type_ok(tag: u32, objects: u32, k: u32, room: u32, d: PacketDialect) -> bool
-    ensures { λ r. ⌜ r ≡ typeOk (profileOf d) objects k room tag ⌝ }
-{
-    some_length_fits(k, room, rule_of(tag, objects, d), d)
 }
 
 // Is this length one of the rule's?

@@ -3,7 +3,7 @@
 ghost use mathlib.Core.Path.{_≡_};
 ghost use Rattle.form.specs.Form.{judgeAt};
 ghost use Rattle.form.specs.Numbers.{Judges};
-ghost use Rattle.mmwave.specs.Packet.{typeField, payload, last, records};
+ghost use Rattle.mmwave.specs.Packet.{payload, last, records};
 ghost use Rattle.mmwave.specs.Dialects.{profileOf};
 use form::Judgement;
 use mmwave::PacketDialect;
@@ -20,31 +20,6 @@ pub const BAD_TYPE: u32 = 23;
 pub const BAD_LENGTH: u32 = 24;
 
 pub const BAD_REPEATED: u32 = 25;
-
-// A record's type, behind records whose types have been seen.
-fn type_at(
-    s: &[u8],
-    at: usize,
-    objects: u32,
-    seen: u32,
-    k: u32,
-    room: u32,
-    d: PacketDialect,
-) -> Judgement
-    ensures { λ r. ⌜ r ≡ judgeAt (typeField (profileOf d) objects seen k room) at (now (s .entry)) ⌝ }
-{
-    let a = form::number(s, at);
-    let Judgement::Whole(tag, e) = a else {
-        return a;
-    };
-    if seen & mark_of(tag, d) != 0 {
-        return Judgement::Bad(BAD_REPEATED);
-    }
-    if type_ok(tag, objects, k, room, d) {
-        return Judgement::Whole(tag, e);
-    }
-    Judgement::Bad(BAD_TYPE)
-}
 
 // A record's payload length, by the rule of its type, and its payload: the length, and the offset behind the record.
 fn payload_at(s: &[u8], at: usize, rule: Rule, k: u32, room: u32, d: PacketDialect) -> Judgement
@@ -76,6 +51,41 @@ fn padding_at(s: &[u8], at: usize, room: u32, d: PacketDialect) -> Judgement
 }
 
 // The `k` records from `at` on, and the padding: the first one, then the remaining ones right behind it, with its type among those seen.
+// The slice is lent on as it is lent: a slice that is handed on is stored anew for each record.
+fn walk_from(
+    s: &&[u8],
+    at: usize,
+    objects: u32,
+    seen: u32,
+    k: u32,
+    room: u32,
+    d: PacketDialect,
+) -> Judgement
+    ensures { λ r. ⌜ r ≡ judgeAt (records (profileOf d) objects seen k room) at (now (now (s .entry))) ⌝ }
+{
+    if k == 0 {
+        return padding_at(*s, at, room, d);
+    }
+    let a = form::number(*s, at);
+    let Judgement::Whole(tag, i) = a else {
+        return a;
+    };
+    let mark = mark_of(tag, d);
+    if seen & mark != 0 {
+        return Judgement::Bad(BAD_REPEATED);
+    }
+    let rule = rule_of(tag, objects, d);
+    if type_ok(rule, k, room, d) {
+        let b = payload_at(*s, i, rule, k, room, d);
+        let Judgement::Whole(m, e) = b else {
+            return b;
+        };
+        return walk_from(s, e, objects, seen | mark, k - 1, room - m, d);
+    }
+    Judgement::Bad(BAD_TYPE)
+}
+
+// The `k` records from `at` on, behind records whose types have been seen, and the padding.
 pub fn walk(
     s: &[u8],
     at: usize,
@@ -87,16 +97,5 @@ pub fn walk(
 ) -> Judgement
     ensures { λ r. ⌜ Judges (records (profileOf d) objects seen k room) at (now (s .entry)) r ⌝ }
 {
-    if k == 0 {
-        return padding_at(s, at, room, d);
-    }
-    let a = type_at(s, at, objects, seen, k, room, d);
-    let Judgement::Whole(tag, i) = a else {
-        return a;
-    };
-    let b = payload_at(s, i, rule_of(tag, objects, d), k, room, d);
-    let Judgement::Whole(m, e) = b else {
-        return b;
-    };
-    walk(s, e, objects, seen | mark_of(tag, d), k - 1, room - m, d)
+    walk_from(&s, at, objects, seen, k, room, d)
 }

@@ -21,8 +21,8 @@ walk-requires c κs = search needs
 returns : tie.Need-returns
 returns c = c .walk .ensures
 
-all-records-requires : tie.Need-all-records-requires
-all-records-requires c κs = search needs
+walk-inside-requires : tie.Need-walk-inside-requires
+walk-inside-requires c κs = search needs
 
 kind-of-requires : tie.Need-kind-of-requires
 kind-of-requires c κs = search needs
@@ -30,10 +30,10 @@ kind-of-requires c κs = search needs
 returns-2 : tie.Need-returns-2
 returns-2 c =
     let i2 = c .before in
-    judges (settled-whole _ _ _ _ (c .kind-of .ensures) (i2 .before .all-records .ensures) (i2 .if2 .taken) (omega arith))
+    judges (settled-whole _ _ _ _ (c .kind-of .ensures) (i2 .before .walk-inside .ensures) (i2 .if2 .taken) (omega arith))
 
 returns-3 : tie.Need-returns-3
-returns-3 c = judges (settled-bad _ _ _ (c .before .all-records .ensures) (c .if2 .left))
+returns-3 c = judges (settled-bad _ _ _ (c .before .walk-inside .ensures) (c .if2 .left))
 
 pub judge-records-spec : {M : Type 1} → statement M
 judge-records-spec =
@@ -44,7 +44,7 @@ judge-records-spec =
     add-total-2
     walk-requires
     returns
-    all-records-requires
+    walk-inside-requires
     kind-of-requires
     returns-2
     returns-3)
