@@ -157,7 +157,7 @@ static void places(void)
     ask("behind 70,000 bytes", 300);
 }
 
-/* The first record of type 1 alone counts, wherever it stands. */
+/* The record of type 1 alone counts, wherever it stands; a packet with two of them is none. */
 static void records(void)
 {
     static const uint32_t types[][2] = {{1, 1}, {10, 1}, {257, 10}, {1, 77}};
@@ -173,6 +173,24 @@ static void records(void)
                      first ? "first" : "second");
             ask(what, 300);
         }
+}
+
+/* A known type again, or 4 beside 8: such a packet is none, and what stands behind it is read. Other types may repeat. */
+static void repeated_types(void)
+{
+    static const uint32_t types[][3] = {{1, 10, 1}, {4, 1, 8}, {8, 1, 4}, {1, 5, 5}, {10, 1, 10}, {0, 0, 1}, {257, 1, 257}};
+    for (size_t i = 0; i < sizeof types / sizeof types[0]; i++) {
+        char what[60];
+        size = 0;
+        begin(1);
+        for (int j = 0; j < 3; j++)
+            record(types[i][j], 1, &near_by);
+        end();
+        snprintf(what, sizeof what, "types %" PRIu32 ", %" PRIu32 " and %" PRIu32, types[i][0], types[i][1], types[i][2]);
+        ask(what, 300);
+        packet(1, (const point[]){{0, 0, 0}});
+        ask("and zeros in a packet behind it", 299);
+    }
 }
 
 /* A packet as the payload of one; the outer one whole, cut behind the inner one, and broken: L is 32 more than it fills. */
@@ -245,6 +263,7 @@ int main(void)
     refused_coordinates();
     places();
     records();
+    repeated_types();
     packets();
     vital_signs();
     refusals();

@@ -112,6 +112,91 @@ static void vital_signs(void)
     }
 }
 
+static void put(uint8_t *at, uint32_t word)
+{
+    for (int i = 0; i < 4; i++)
+        at[i] = (uint8_t)(word >> 8 * i);
+}
+
+/* A legal payload length of a type: in mmWave with two objects. */
+static uint32_t length_of(uint32_t dialect, uint32_t type)
+{
+    static const uint32_t mmwave[10] = {8, 32, 8, 8, 8, 8, 24, 8, 8, 28}, vital_signs[5] = {0, 24, 8, 16, 20};
+    return dialect == VQ_VITAL_SIGNS ? vital_signs[type] : mmwave[type < 10 ? type : 0];
+}
+
+/* A packet with records of these types, each of a legal length; answers its bytes. */
+static size_t build(uint8_t *packet, uint32_t dialect, uint32_t count, const uint32_t *types)
+{
+    static const uint8_t magic[8] = {2, 1, 4, 3, 6, 5, 8, 7};
+    size_t end = 40;
+    memset(packet, 0, 256);
+    memcpy(packet, magic, 8);
+    for (uint32_t i = 0; i < count; i++) {
+        put(packet + end, types[i]);
+        put(packet + end + 4, length_of(dialect, types[i]));
+        end += 8 + length_of(dialect, types[i]);
+    }
+    if (dialect == VQ_MMWAVE)
+        end = (end + 31) / 32 * 32;
+    put(packet + 12, (uint32_t)end);
+    put(packet + 28, dialect == VQ_MMWAVE ? 2 : 99);
+    put(packet + 32, count);
+    return end;
+}
+
+/* State and reason of packets with two records of all types up to `most`. */
+static void pairs(const char *what, uint32_t dialect, uint32_t most)
+{
+    for (uint32_t first = 1; first <= most; first++) {
+        printf("%s, %" PRIu32 " and then 1 to %" PRIu32 ":", what, first, most);
+        for (uint32_t second = 1; second <= most; second++) {
+            uint8_t packet[256];
+            const size_t count = build(packet, dialect, 2, (const uint32_t[]){first, second});
+            struct vq_judgement j = vq_judge(dialect, packet, count, 0);
+            printf(" %" PRIu32 "/%" PRIu32, j.state, j.reason);
+        }
+        putchar('\n');
+    }
+}
+
+/* Each known type once, and not both 4 and 8; other types may repeat, and in vital signs all may. */
+static void repeated_types(void)
+{
+    static const uint32_t types[][3] = {{4, 10, 8},    {8, 10, 4},                  {1, 10, 1},
+                                        {0, 0, 0},     {10, 10, 10},                {UINT32_MAX, UINT32_MAX, UINT32_MAX},
+                                        {257, 1, 257}, {0x80000004, 8, 0x80000004}, {33, 1, 17}};
+    uint8_t packet[256];
+    pairs("types", VQ_MMWAVE, 9);
+    pairs("vital signs, types", VQ_VITAL_SIGNS, 4);
+    for (size_t i = 0; i < sizeof types / sizeof types[0]; i++) {
+        char what[60];
+        const size_t count = build(packet, VQ_MMWAVE, 3, types[i]);
+        snprintf(what, sizeof what, "types %" PRIu32 ", %" PRIu32 " and %" PRIu32, types[i][0], types[i][1], types[i][2]);
+        judge(what, VQ_MMWAVE, packet, count, 0);
+    }
+
+    /* L 96: behind 32 bytes of type 6 at 40, no record of type 6 or 9 has room at 72. */
+    build(packet, VQ_MMWAVE, 2, (const uint32_t[]){6, 6});
+    put(packet + 12, 96);
+    judge("type 6 again, cut in its type", VQ_MMWAVE, packet, 75, 0);
+    judge("type 6 again, cut behind its type", VQ_MMWAVE, packet, 76, 0);
+    judge("type 6 again, and no room", VQ_MMWAVE, packet, 96, 0);
+    put(packet + 72, 9);
+    judge("type 9, and no room", VQ_MMWAVE, packet, 76, 0);
+    put(packet + 72, 2);
+    judge("type 2, and room", VQ_MMWAVE, packet, 76, 0);
+    put(packet + 72, 6), put(packet + 44, 23);
+    judge("a wrong length before type 6 again", VQ_MMWAVE, packet, 96, 0);
+
+    /* L 96 is the end: two records of type 4, 28 bytes each, fit in both dialects. */
+    const size_t both = build(packet, VQ_VITAL_SIGNS, 2, (const uint32_t[]){4, 4});
+    judge("type 4 twice", VQ_MMWAVE, packet, both, 0);
+    judge("type 4 twice in vital signs", VQ_VITAL_SIGNS, packet, both, 0);
+    read_both("type 4 twice", VQ_MMWAVE, packet, both, 12);
+    read_both("type 4 twice in vital signs", VQ_VITAL_SIGNS, packet, both, 12);
+}
+
 /* A T frame, its blocks all of value 0 or all of `0`, with another byte at a place: judged whole and up to that byte. */
 static void empty_blocks(void)
 {
@@ -171,5 +256,6 @@ int main(void)
     read_both("too many bytes of vital signs", 2, large, sizeof large, 12);
     vital_signs();
     empty_blocks();
+    repeated_types();
     return 0;
 }

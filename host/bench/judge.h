@@ -1,7 +1,7 @@
 /*
- * The judgement as one writes it in C from papers 01 and 02 (i) and (ii): byte by byte, in the order of the checks, with the
- * reason of the first that fails. No tables, no tricks, nothing left out. Each reader has it for itself, so that the compiler
- * can put it into the reader's loop.
+ * The judgement as one writes it in C from papers 01 and 02 (i), (ii) and (vii): byte by byte, in the order of the checks,
+ * with the reason of the first that fails. No tables, no tricks, nothing left out. Each reader has it for itself, so that the
+ * compiler can put it into the reader's loop.
  */
 #ifndef JUDGE_H
 #define JUDGE_H

@@ -63,6 +63,14 @@ static void lengths(uint32_t type, uint64_t objects, uint64_t *step, uint64_t *o
     }
 }
 
+/* A type's bit among those seen in an mmWave packet: 4 and 8 share one, a type outside 1 to 9 may repeat and has none. */
+static uint32_t type_bit(uint32_t type)
+{
+    if (type == 8)
+        return 1u << 4;
+    return type >= 1 && type <= 9 ? 1u << type : 0;
+}
+
 static void vital_signs_lengths(uint32_t type, uint64_t *step, uint64_t *only)
 {
     *step = 0;
@@ -125,14 +133,20 @@ static struct c_judgement judge_packet(uint32_t dialect, const uint8_t *bytes, s
     if (dialect == VITAL_SIGNS && number(bytes + 36) != 0)
         return bad(26);
     uint64_t place = 40;
+    uint32_t seen = 0;
     for (uint64_t behind = records; behind-- > 0;) {
         uint64_t step, only;
         if (count < place + 4)
             return waiting();
-        if (dialect == MMWAVE)
-            lengths(number(bytes + place), objects, &step, &only);
-        else
-            vital_signs_lengths(number(bytes + place), &step, &only);
+        uint32_t type = number(bytes + place);
+        if (dialect == MMWAVE) {
+            if (seen & type_bit(type))
+                return bad(25);
+            seen |= type_bit(type);
+            lengths(type, objects, &step, &only);
+        } else {
+            vital_signs_lengths(type, &step, &only);
+        }
         /* The records before this one left room for it and those behind it. */
         uint64_t room = total - place - 8 * (behind + 1);
         if (step ? !can_end(dialect, place + 8 + room / step * step, behind, total)

@@ -71,12 +71,13 @@ extern "C" {
 #define VQ_BAD_EMPTY 17u      /* a byte other than 0 in a block whose first byte is 0 */
 
 /* Reasons of a bad mmWave or vital-signs place: the first field that fails. */
-#define VQ_BAD_MAGIC 20u  /* not the magic */
-#define VQ_BAD_TOTAL 21u  /* the total length is not legal */
-#define VQ_BAD_COUNT 22u  /* over 32 records, or more than fit, or none in a packet longer than 64 (vital signs: 40) bytes */
-#define VQ_BAD_TYPE 23u   /* no legal payload length of this type lets the records fit the total length */
-#define VQ_BAD_LENGTH 24u /* the payload length is not legal for its type, or the records don't fit with it */
-#define VQ_BAD_FIXED 26u  /* vital signs only: the number at 28 is not 99, or the subframe is not 0 */
+#define VQ_BAD_MAGIC 20u    /* not the magic */
+#define VQ_BAD_TOTAL 21u    /* the total length is not legal */
+#define VQ_BAD_COUNT 22u    /* over 32 records, or more than fit, or none in a packet longer than 64 (vital signs: 40) bytes */
+#define VQ_BAD_TYPE 23u     /* no legal payload length of this type lets the records fit the total length */
+#define VQ_BAD_LENGTH 24u   /* the payload length is not legal for its type, or the records don't fit with it */
+#define VQ_BAD_REPEATED 25u /* mmWave only: a known type (1 to 9) again, or 4 and 8 together; asked before 23 */
+#define VQ_BAD_FIXED 26u    /* vital signs only: the number at 28 is not 99, or the subframe is not 0 */
 
 /* States of a reading. */
 #define VQ_STOPPED_WAITING 0u /* open reading only: the place `next` waits for more bytes */
@@ -115,7 +116,7 @@ extern "C" {
  *   refusal  0, or 1, 3, 2: the first of them in this order that applies
  *   state    VQ_WHOLE, VQ_BAD or VQ_WAITING; 0 with a refusal
  *   kind     of the frame, if whole; else 0
- *   reason   10 to 14, 17, 20 to 24 or 26, if bad; else 0
+ *   reason   10 to 14, 17 or 20 to 26, if bad; else 0
  *   length   of the frame, if whole; else 0
  * More bytes behind these never change a whole or a bad judgement. The place at the very end waits.
  */
@@ -366,8 +367,8 @@ struct vq_step {
 struct vq_step vq_step(uint32_t kind, const uint8_t *packet, size_t count, size_t place);
 
 /*
- * Point `index` of an mmWave packet's first record of type 1: X, Y and Z in millimetres by the edition, as vq_millimetres gives
- * them, and the 32 bits of the Doppler velocity.
+ * Point `index` of an mmWave packet's record of type 1, of which it has one at most: X, Y and Z in millimetres by the
+ * edition, as vq_millimetres gives them, and the 32 bits of the Doppler velocity.
  *   refusal  0, or 5, 7, 6, 32, then 30 or 31 of the first coordinate that has one
  */
 struct vq_point {

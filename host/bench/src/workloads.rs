@@ -72,7 +72,7 @@ const fn anyone_close(name: &'static str, answer: bool, make: fn(&mut Random, us
 }
 
 /// All workloads, in the order of the tables.
-pub const WORKLOADS: [Workload; 35] = [
+pub const WORKLOADS: [Workload; 37] = [
     read("SiRad T, back to back", SIRAD, |random, size| repeat(size, || targets(random, DIGITS))),
     read("SiRad T, every digit 0", SIRAD, |random, size| repeat(size, || targets(random, b"0"))),
     read("SiRad T, two targets, rest \"0\"", SIRAD, |random, size| repeat(size, || two_targets(random, [b'0'; 14]))),
@@ -89,6 +89,7 @@ pub const WORKLOADS: [Workload; 35] = [
     read("`!RFFFF00000000` repeated", SIRAD, |_, size| repeat(size, || b"!RFFFF00000000".to_vec())),
     read("SiRad T, last byte wrong", SIRAD, |random, size| repeat(size, || wrong_end(targets(random, DIGITS)))),
     read("mmWave points, K = 3", MMWAVE, |random, size| repeat(size, || points(random))),
+    read("mmWave, eight types", MMWAVE, |random, size| repeat(size, || eight_types(random))),
     read("mmWave L = 64, K = 0", MMWAVE, |_, size| repeat(size, || packet(64, 0, &[]))),
     read("mmWave in noise", MMWAVE, |random, size| {
         repeat(size, || with_noise(random, |random| mmwave::packet(random, 600).expect("room for a packet")))
@@ -96,6 +97,7 @@ pub const WORKLOADS: [Workload; 35] = [
     read("magics everywhere", MMWAVE, |_, size| repeat(size, || MAGIC.to_vec())),
     read("02 everywhere", MMWAVE, |_, size| vec![2; size]),
     read("32 records, last unfit", MMWAVE, |_, size| repeat(size, unfit_chain)),
+    read("32 records, one type again", MMWAVE, |_, size| repeat(size, type_again_chains)),
     read("vital signs, four types", VITAL_SIGNS, |random, size| repeat(size, || four_types(random))),
     read("vital signs L = 40", VITAL_SIGNS, |_, size| repeat(size, || packet(40, 99, &[]))),
     read("vital signs in noise", VITAL_SIGNS, |random, size| {
@@ -233,6 +235,30 @@ fn points(random: &mut Random) -> Vec<u8> {
     packet(512, 20, &[(1, floats), (7, side), (6, statistics)])
 }
 
+/// All that a chip can send: 4 points with their side information; of 16 range bins the profile, the noise, a heat map of 8
+/// antennas and one of 16 Doppler bins; the statistics and the temperatures.
+fn eight_types(random: &mut Random) -> Vec<u8> {
+    let points = (0..16).flat_map(|_| coordinate(random)).collect();
+    let mut payload = |length: usize| (0..length).map(|_| random.byte()).collect();
+    let (profile, noise) = (payload(2 * 16), payload(2 * 16));
+    let (azimuth, doppler) = (payload(4 * 16 * 8), payload(2 * 16 * 16));
+    let (statistics, side, temperatures) = (payload(24), payload(4 * 4), payload(28));
+    packet(
+        1344,
+        4,
+        &[
+            (1, points),
+            (2, profile),
+            (3, noise),
+            (4, azimuth),
+            (5, doppler),
+            (6, statistics),
+            (7, side),
+            (9, temperatures),
+        ],
+    )
+}
+
 /// Packets of 40 to 60 far points with their side information and the statistics, as [`points`] has them. The last packet takes
 /// up the rest, and its last point is this one.
 fn passage(random: &mut Random, size: usize, last: [f32; 4]) -> Vec<u8> {
@@ -315,6 +341,15 @@ fn chain(total: u32, objects: u32, record_type: u32) -> Vec<u8> {
 /// The last record ends 25 bytes too early.
 fn unfit_chain() -> Vec<u8> {
     chain(1632, 0, 10)
+}
+
+/// Chains that would fit if types could repeat. Of any 32 records in a row six have known types, five of them by turns: the
+/// sixth has the first one's again, in the chain's 27th record or a later one.
+fn type_again_chains() -> Vec<u8> {
+    let mut known = [2, 3, 4, 5, 7].into_iter().cycle();
+    let places = [0, 5, 10, 15, 20, 26];
+    let record_type = |record: usize| if places.contains(&(record % 32)) { known.next() } else { None };
+    (0..5 * 32).map(record_type).flat_map(|known| chain(1600, 10, known.unwrap_or(10))).collect()
 }
 
 /// The last record ends 4 bytes too early.

@@ -34,6 +34,9 @@ pub const ILLEGAL_RECORD_COUNT: u32 = 22;
 pub const TYPE_CANNOT_FIT: u32 = 23;
 /// 24: seen at a length: not legal for the type, or the same lack of fit.
 pub const ILLEGAL_PAYLOAD_LENGTH: u32 = 24;
+/// 25: seen at a type, before 23, in an mmWave packet: "a known type (1 to 9) that occurs again, or type 8 with 4 present, or 4
+/// with 8".
+pub const REPEATED_TYPE: u32 = 25;
 /// 26: "a wrong 99 or subframe, at its own field", of a vital-signs packet.
 pub const WRONG_FIXED_FIELD: u32 = 26;
 
@@ -49,7 +52,7 @@ pub enum Judgement {
     },
     /// No frame stands there, whatever bytes follow.
     Bad {
-        /// 10 to 14 and 17 for SiRad, 20 to 24 for mmWave, these and 26 for vital signs: the first check that fails.
+        /// 10 to 14 and 17 for SiRad, 20 to 25 for mmWave, 20 to 24 and 26 for vital signs: the first check that fails.
         reason: u32,
     },
     /// No check has failed and the frame is not all there.

@@ -1,4 +1,4 @@
-//! A plain reader of the radar wires, written from paper 01 ("What gets built and its exact rules"), paper 02 (i) to (vi)
+//! A plain reader of the radar wires, written from paper 01 ("What gets built and its exact rules"), paper 02 (i) to (vii)
 //! and the makers' documents 000 to 004 alone. It is slow where slow is clearer, and it exists to be compared with.
 //!
 //! | Module | What it holds | Paper 01; paper 02 |
@@ -7,7 +7,7 @@
 //! | [`judgement`] | whole, bad or waiting, for each dialect | "Judging a place" |
 //! | [`sirad`] | the judgement of SiRad frames | "The three wires"; (ii) |
 //! | [`packet_rules`] | the judgement of packets, by the rules of a dialect | "The three wires" |
-//! | [`mmwave`], [`vital_signs`] | the rules of each packet dialect | "The three wires"; (i) |
+//! | [`mmwave`], [`vital_signs`] | the rules of each packet dialect | "The three wires"; (i), (vii) |
 //! | [`reading`] | the open and the closed reading, the choice of two lines | "Two readings" |
 //! | [`feeder`] | bytes as the port gives them | (iii) |
 //! | [`numbers`] | dB, phase, accuracy, millimetres | "Numbers"; (iv), (v) changes no answer |

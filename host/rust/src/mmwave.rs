@@ -1,5 +1,5 @@
-//! The rules of mmWave packets (paper 01, "The three wires" and "Judging a place"; document 004). The header's places and
-//! the walk are in [`crate::packet_rules`].
+//! The rules of mmWave packets (paper 01, "The three wires" and "Judging a place"; paper 02 (vii); document 004). The header's
+//! places and the walk are in [`crate::packet_rules`].
 
 use crate::judgement::Judgement;
 use crate::packet_rules::{Lengths, Rules, MAX_RECORDS, MAX_TOTAL};
@@ -24,6 +24,7 @@ pub const RULES: Rules = Rules {
     most_records: MAX_RECORDS,
     fixed: &[],
     block: PADDING,
+    is_excluded,
     lengths: legal_lengths,
 };
 
@@ -35,6 +36,19 @@ pub fn judge(bytes: &[u8]) -> Judgement {
 /// "L is a multiple of 32 from 64 to 32,768."
 pub fn is_legal_total(total: u64) -> bool {
     total.is_multiple_of(PADDING) && (MIN_TOTAL..=MAX_TOTAL).contains(&total)
+}
+
+/// "A known type (1 to 9) that occurs again, or type 8 with 4 present, or 4 with 8, is refused in dialect 1. Types outside 1 to
+/// 9 may repeat" (paper 02 (vii)).
+pub fn is_excluded(record_type: u32, types_before: &[u32]) -> bool {
+    let present = |other: u32| types_before.contains(&other);
+    let occurs_again = is_known(record_type) && present(record_type);
+    occurs_again || (record_type == 8 && present(4)) || (record_type == 4 && present(8))
+}
+
+/// "A known type (1 to 9)."
+pub fn is_known(record_type: u32) -> bool {
+    (1..=9).contains(&record_type)
 }
 
 /// "Type 1 is 16N and N is not 0; type 7 is 4N and N is not 0; 2, 3, 5 even; 4, 8 a multiple of 4; 6 is 24; 9 is 28; all
@@ -201,15 +215,79 @@ mod tests {
 
     #[test]
     fn a_type_is_judged_with_the_records_behind_it() {
-        // L 96, K 2: type 9 takes 36 bytes and leaves 20 for the second record; type 6 twice takes 64 of 56 bytes.
+        // L 96, K 2: type 9 takes 36 bytes and leaves 20 for the second record; types 6 and 9 take 68 of 56 bytes.
         assert_eq!(judge(&with(header(96, 0, 2), &[9])), Judgement::Waiting);
         assert_eq!(judge(&with(header(96, 0, 2), &[6])), Judgement::Waiting);
         assert_eq!(judge(&with(header(96, 0, 3), &[9])), Judgement::Waiting);
         assert_eq!(judge(&with(header(96, 0, 4), &[9])), bad(23));
         let first = padded(with(header(96, 0, 2), &[6, 24]), 72);
-        assert_eq!(judge(&with(first.clone(), &[6])), bad(23));
+        assert_eq!(judge(&with(first.clone(), &[9])), bad(23));
         assert_eq!(judge(&with(first.clone(), &[2])), Judgement::Waiting);
         assert_eq!(judge(&padded(with(first, &[2, 14]), 96)), whole(96));
+    }
+
+    /// A packet with these types and payload lengths, L what they ask for.
+    fn of_types(objects: u32, records: &[(u32, u32)]) -> Vec<u8> {
+        let end = 40 + records.iter().map(|(_, length)| 8 + length).sum::<u32>();
+        let total = end.next_multiple_of(32);
+        let bytes = records.iter().fold(header(total, objects, records.len() as u32), |bytes, &(kind, length)| {
+            let bytes = with(bytes, &[kind, length]);
+            let behind = bytes.len() + length as usize;
+            padded(bytes, behind)
+        });
+        padded(bytes, total as usize)
+    }
+
+    /// A legal payload length of each type, with two objects.
+    fn some_length(record_type: u32) -> u32 {
+        [5, 32, 2, 4, 8, 6, 24, 8, 12, 28].get(record_type as usize).copied().unwrap_or(3)
+    }
+
+    #[test]
+    fn each_known_type_comes_once() {
+        for first in 0..13 {
+            for second in 0..13 {
+                let bytes = of_types(2, &[first, 10, second, 11].map(|kind| (kind, some_length(kind))));
+                let repeated = first == second && (1..=9).contains(&first);
+                let expected =
+                    if repeated || [(4, 8), (8, 4)].contains(&(first, second)) { bad(25) } else { whole(bytes.len()) };
+                assert_eq!(judge(&bytes), expected, "{first} {second}");
+            }
+        }
+        let all = [1, 2, 3, 4, 5, 6, 7, 9].map(|kind| (kind, some_length(kind)));
+        assert_eq!(judge(&of_types(2, &all)), whole(224));
+        for again in 1..=9 {
+            let bytes = of_types(2, &[&all[..], &[(0, 1), (again, some_length(again))]].concat());
+            assert_eq!(judge(&bytes), bad(25), "{again}");
+        }
+    }
+
+    #[test]
+    fn other_types_come_again() {
+        for free in [0, 10, 11, 16, 255, 256, 1 << 31, u32::MAX].into_iter().chain((4..32).map(|bit| 1 | 1 << bit)) {
+            assert_eq!(judge(&of_types(1, &[(free, 3), (1, 16), (free, 5)])), whole(96), "{free}");
+            assert_eq!(judge(&of_types(1, &[(1, 16), (free, 3), (1, 16)])), bad(25), "{free}");
+        }
+        assert_eq!(judge(&of_types(0, &[(10, 0); 32])), whole(320));
+        assert_eq!(judge(&of_types(0, &[[(0, 0); 30].as_slice(), &[(5, 0), (5, 0)]].concat())), bad(25));
+    }
+
+    #[test]
+    fn a_repeated_type_is_seen_at_its_field_before_the_fit() {
+        // L 96, K 2: a second type 6 can't fit either; a second type 2 fits.
+        for (known, length) in [(6, 24), (2, 24)] {
+            let first = padded(with(header(96, 0, 2), &[known, length]), 72);
+            let bytes = with(first, &[known, u32::MAX]);
+            for end in 48..76 {
+                assert_eq!(judge(&bytes[..end]), Judgement::Waiting, "{known} {end}");
+            }
+            for end in 76..=80 {
+                assert_eq!(judge(&bytes[..end]), bad(25), "{known} {end}");
+            }
+        }
+        // The length of a record before it comes first, and so does its type.
+        assert_eq!(judge(&padded(with(header(96, 0, 2), &[2, 3, 2, 2]), 96)), bad(24));
+        assert_eq!(judge(&padded(with(header(96, 0, 2), &[1, 0, 1, 0]), 96)), bad(23));
     }
 
     #[test]

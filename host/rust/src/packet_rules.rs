@@ -6,8 +6,8 @@
 //! fourth byte is there, and until then it waits".
 
 use crate::judgement::{
-    Judgement, ILLEGAL_PAYLOAD_LENGTH, ILLEGAL_RECORD_COUNT, ILLEGAL_TOTAL_LENGTH, TYPE_CANNOT_FIT, WRONG_FIXED_FIELD,
-    WRONG_MAGIC,
+    Judgement, ILLEGAL_PAYLOAD_LENGTH, ILLEGAL_RECORD_COUNT, ILLEGAL_TOTAL_LENGTH, REPEATED_TYPE, TYPE_CANNOT_FIT,
+    WRONG_FIXED_FIELD, WRONG_MAGIC,
 };
 use crate::{mmwave, vital_signs};
 
@@ -53,6 +53,8 @@ pub struct Rules {
     pub fixed: &'static [(usize, u64)],
     /// L is the smallest multiple of this not below the end of the last record.
     pub block: u64,
+    /// Whether no record of a type may stand behind records of these types.
+    pub is_excluded: fn(u32, &[u32]) -> bool,
     /// The legal payload lengths of a type, given the object count.
     pub lengths: fn(u32, u64) -> Lengths,
 }
@@ -116,8 +118,12 @@ impl Rules {
         check(self.is_legal_count(records, total), ILLEGAL_RECORD_COUNT)?;
         self.fixed_or_free(bytes, SUBFRAME)?;
         let mut place = HEADER_SIZE as u64;
+        let mut types_before = Vec::new();
         for behind in (0..records).rev() {
-            let legal = (self.lengths)(field(bytes, place as usize)? as u32, objects);
+            let record_type = field(bytes, place as usize)? as u32;
+            check(!(self.is_excluded)(record_type, &types_before), REPEATED_TYPE)?;
+            types_before.push(record_type);
+            let legal = (self.lengths)(record_type, objects);
             check(self.some_length_fits(legal, place, behind, total), TYPE_CANNOT_FIT)?;
             let length = field(bytes, place as usize + 4)?;
             let end = place + RECORD_HEADER + length;
@@ -152,8 +158,8 @@ impl Rules {
     }
 
     /// Whether the records can end so that L fits, if one with a legal length ends at `end` and `behind` more follow. Those
-    /// fill what is left: in mmWave a free type does by bytes, in vital signs type 2 by fours, and there L and all ends are
-    /// multiples of 4.
+    /// fill what is left: in mmWave a free type does by bytes, whatever types stand before it, in vital signs type 2 by fours,
+    /// and there L and all ends are multiples of 4.
     pub fn can_end(&self, end: u64, behind: u64, total: u64) -> bool {
         if behind == 0 {
             end <= total && total < end + self.block

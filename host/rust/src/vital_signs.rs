@@ -21,7 +21,7 @@ pub const ADC_DATA: u32 = 3;
 pub const SYSTEM_INFORMATION: u32 = 4;
 
 /// "Offset 28 holds 99, the subframe is 0, there is no padding (L is exactly the end of the last record ..), K is at most
-/// 32. .. K is 0 exactly if L is 40."
+/// 32. .. K is 0 exactly if L is 40." Any type may repeat: paper 02 (vii) is on dialect 1.
 pub const RULES: Rules = Rules {
     kind: PACKET,
     is_legal_total,
@@ -29,6 +29,7 @@ pub const RULES: Rules = Rules {
     most_records: MAX_RECORDS,
     fixed: &[(OBJECT_COUNT, FIX_NUMBER), (SUBFRAME, 0)],
     block: 1,
+    is_excluded: |_, _| false,
     lengths: |record_type, _| legal_lengths(record_type),
 };
 
@@ -257,11 +258,14 @@ mod tests {
     fn one_byte_string_can_be_a_packet_of_both_dialects() {
         let bytes = packet(&[(2, 16)]);
         assert_eq!((judge(&bytes), mmwave::judge(&bytes)), (whole(64), Judgement::Whole { kind: 16, length: 64 }));
-        let bytes = packet(&[(4, 20), (3, 32), (2, 24), (2, 4)]);
+        let bytes = packet(&[(4, 20), (3, 32), (2, 36)]);
         assert_eq!(bytes.len(), 152);
         assert_eq!((judge(&bytes), mmwave::judge(&bytes)), (whole(152), bad(21)));
-        let bytes = packet(&[(4, 20), (3, 32), (2, 24), (2, 12)]);
+        let bytes = packet(&[(4, 20), (3, 32), (2, 44)]);
         assert_eq!((judge(&bytes), mmwave::judge(&bytes)), (whole(160), Judgement::Whole { kind: 16, length: 160 }));
+        // Here a type may come again, and there it may not.
+        let bytes = packet(&[(4, 20), (3, 32), (2, 24), (2, 12)]);
+        assert_eq!((judge(&bytes), mmwave::judge(&bytes)), (whole(160), bad(25)));
         // Type 1 has 24 bytes here and 16 times 99 there.
         let bytes = packet(&[(1, 24), (2, 16)]);
         assert_eq!((judge(&bytes), mmwave::judge(&bytes)), (whole(96), bad(23)));

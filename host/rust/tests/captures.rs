@@ -129,12 +129,24 @@ fn mmwave_close_points() {
 
 #[test]
 fn mmwave_hostile_waits_in_the_middle() {
-    let made = capture(MMWAVE, Family::Hostile, 1, 3000);
+    let made = capture(MMWAVE, Family::Hostile, 353, 3000);
     check("mmwave-hostile", MMWAVE, &made);
     let mut table = [0; 300];
     let open = open_reading(MMWAVE, &made, &mut table).unwrap();
     let closed = closed_reading(MMWAVE, &made, &mut table).unwrap();
     assert!(open.next < 1000 && open.rows < closed.rows);
+    assert_eq!(reasons(MMWAVE, &made), [20, 21, 22, 23, 24, 25]);
+    // Two records of type 1; 4 and 8; 8 and 4: what follows each is read.
+    let word = |place: usize| u32::from_le_bytes(made[place..place + 4].try_into().unwrap());
+    for (place, types) in [(496, [(40, 1), (112, 1)]), (956, [(226, 4), (234, 8)]), (2682, [(72, 8), (169, 4)])] {
+        assert_eq!(judge(MMWAVE, &made, place), Ok(Judgement::Bad { reason: 25 }));
+        assert_eq!(types.map(|(at, _)| word(place + at)), types.map(|(_, record_type)| record_type));
+        assert!(table.chunks_exact(ROW).take(closed.rows).any(|row| row[0] as usize > place));
+    }
+    // Seven records of type 10, which may repeat.
+    let whole = &made[752..752 + 96];
+    let types = (0..7).map(|index| record(16, whole, index).map(|record| record.record_type));
+    assert_eq!(types.collect::<Vec<_>>(), [Ok(10); 7]);
 }
 
 #[test]

@@ -4,6 +4,7 @@
 //! seed than the usual one.
 
 mod editions;
+mod tags;
 
 use editions::{is_wrong, Renaming, OTHER_EDITIONS};
 use radar_reference::abi::{Centidegrees, Judgement, Millimetres, Reading, Reference, Subject, BAD, WAITING, WHOLE};
@@ -16,6 +17,7 @@ use radar_reference::numbers::EDITIONS;
 use radar_reference::packet_rules::{Lengths, Rules};
 use radar_reference::reading::ROW;
 use radar_reference::{mmwave, vital_signs};
+use tags::{repeated, tags};
 
 const JUDGEMENTS: u64 = 1_000_000;
 const READINGS: u64 = 12_000;
@@ -36,7 +38,7 @@ fn assert_all_judgements_seen(tally: &Tally) {
         assert!(tally.of(&format!("whole {kind}")) >= 300, "{kind} in {tally}");
     }
     assert!(tally.of("waiting") >= 300, "{tally}");
-    for reason in [10, 11, 12, 13, 14, 17, 20, 21, 22, 23, 24, 26] {
+    for reason in [10, 11, 12, 13, 14, 17, 20, 21, 22, 23, 24, 25, 26] {
         assert!(tally.of(&format!("bad {reason}")) >= 300, "{reason} in {tally}");
     }
     for refusal in 1..=3 {
@@ -147,6 +149,9 @@ type Rounding = fn(f64) -> f64;
 /// The centidegrees of the character so many steps behind 144.
 type Phase = fn(i32) -> i32;
 
+/// Whether no record of a type may stand behind records of these types.
+type Exclusion = fn(u32, &[u32]) -> bool;
+
 /// The reader with one function replaced.
 #[derive(Clone, Copy)]
 enum Wrong {
@@ -154,6 +159,8 @@ enum Wrong {
     JudgeAt(fn(u32, &[u8], usize) -> Judgement),
     /// Vital signs by these rules.
     Rules(Rules),
+    /// mmWave with this rule on which types a type may not stand behind.
+    Excludes(Exclusion),
     Millimetres(Conversion),
     /// The same by this edition only.
     ByEdition(u32, Conversion),
@@ -173,6 +180,7 @@ impl Subject for Wrong {
         match self {
             Wrong::Judge(judge) if right.refusal == 0 => judge(dialect, &bytes[place..]),
             Wrong::Rules(rules) if right.refusal == 0 && dialect == 2 => Ok(rules.judge(&bytes[place..])).into(),
+            Wrong::Excludes(excluded) if right.refusal == 0 && dialect == 1 => with_types(&bytes[place..], *excluded),
             Wrong::JudgeAt(judge) => judge(dialect, bytes, place),
             _ => right,
         }
@@ -750,10 +758,10 @@ fn bad_with(dialect: u32, bytes: &[u8], reason: u32, such: fn(&[u8], &[u8]) -> b
     }
 }
 
-/// What becomes of a broken block of value 0; the second number is the place of its wrong byte.
-fn broken_as(dialect: u32, bytes: &[u8], otherwise: fn(&[u8], usize) -> Judgement) -> Judgement {
+/// What becomes of bytes that are bad for this reason; the second number is the place of the byte where it is seen.
+fn seen_as(dialect: u32, bytes: &[u8], reason: u32, otherwise: fn(&[u8], usize) -> Judgement) -> Judgement {
     match right(dialect, bytes) {
-        right if right.reason == 17 => otherwise(bytes, seen_at(dialect, bytes) - 1),
+        right if right.reason == reason => otherwise(bytes, seen_at(dialect, bytes) - 1),
         right => right,
     }
 }
@@ -763,18 +771,18 @@ const WRONG_EMPTY_BLOCKS: &[(&str, Wrong)] = &[
         "a block of value 0 is refused with 12",
         Wrong::Judge(|d, b| blocks_with(d, b, |block| block[0] = if block[0] == 0 { b'G' } else { block[0] })),
     ),
-    ("a broken block is told as not a hex digit", Wrong::Judge(|d, b| broken_as(d, b, |_, _| bad(12)))),
-    ("a broken block is told as not a character", Wrong::Judge(|d, b| broken_as(d, b, |_, _| bad(13)))),
+    ("a broken block is told as not a hex digit", Wrong::Judge(|d, b| seen_as(d, b, 17, |_, _| bad(12)))),
+    ("a broken block is told as not a character", Wrong::Judge(|d, b| seen_as(d, b, 17, |_, _| bad(13)))),
     (
         "a broken block is told by the field of its byte",
         Wrong::Judge(|d, b| {
-            broken_as(d, b, |_, place| bad(if b"xxxxxcxxxxcccc"[(place - 4) % 14] == b'x' { 12 } else { 13 }))
+            seen_as(d, b, 17, |_, place| bad(if b"xxxxxcxxxxcccc"[(place - 4) % 14] == b'x' { 12 } else { 13 }))
         }),
     ),
     (
         "a broken block is seen at its end",
         Wrong::Judge(|d, b| {
-            broken_as(d, b, |b, place| if b.len() < 4 + (place - 4).next_multiple_of(14) { waiting() } else { bad(17) })
+            seen_as(d, b, 17, |b, at| if b.len() < 4 + (at - 4).next_multiple_of(14) { waiting() } else { bad(17) })
         }),
     ),
     (
@@ -881,11 +889,199 @@ const WRONG_EMPTY_BLOCKS: &[(&str, Wrong)] = &[
     ),
 ];
 
+/// The judgement of mmWave bytes with this rule on types.
+fn with_types(bytes: &[u8], is_excluded: Exclusion) -> Judgement {
+    Ok(Rules { is_excluded, ..mmwave::RULES }.judge(bytes)).into()
+}
+
+/// The judgement of mmWave bytes of which any type may come again.
+fn with_any_types(bytes: &[u8]) -> Judgement {
+    with_types(bytes, |_, _| false)
+}
+
+fn excluded(record_type: u32, before: &[u32]) -> bool {
+    mmwave::is_excluded(record_type, before)
+}
+
+/// This type is not asked for.
+fn but_for<const TYPE: u32>(record_type: u32, before: &[u32]) -> bool {
+    record_type != TYPE && excluded(record_type, before)
+}
+
+/// This type is refused, too, if it comes again.
+fn also<const TYPE: u32>(record_type: u32, before: &[u32]) -> bool {
+    record_type == TYPE && before.contains(&TYPE) || excluded(record_type, before)
+}
+
+/// Only these bits of a type are looked at.
+fn masked<const BITS: u32>(record_type: u32, before: &[u32]) -> bool {
+    excluded(record_type & BITS, &before.iter().map(|other| other & BITS).collect::<Vec<_>>())
+}
+
+/// The types of a packet's records.
+fn types_of(packet: &[u8]) -> Vec<u32> {
+    tags(packet).into_iter().map(|(_, tag)| tag).collect()
+}
+
+/// Whether some of the types may not stand behind those before it.
+fn any_excluded(types: &[u32]) -> bool {
+    (0..types.len()).any(|index| excluded(types[index], &types[..index]))
+}
+
+const WRONG_TYPES: &[(&str, Wrong)] = &[
+    ("any type may come again", Wrong::Excludes(|_, _| false)),
+    ("1 may come again", Wrong::Excludes(but_for::<1>)),
+    ("2 may come again", Wrong::Excludes(but_for::<2>)),
+    ("3 may come again", Wrong::Excludes(but_for::<3>)),
+    ("5 may come again", Wrong::Excludes(but_for::<5>)),
+    ("6 may come again", Wrong::Excludes(but_for::<6>)),
+    ("7 may come again", Wrong::Excludes(but_for::<7>)),
+    ("9 may come again", Wrong::Excludes(but_for::<9>)),
+    ("4 may come again", Wrong::Excludes(|t, before| if t == 4 { before.contains(&8) } else { excluded(t, before) })),
+    ("8 may come again", Wrong::Excludes(|t, before| if t == 8 { before.contains(&4) } else { excluded(t, before) })),
+    ("4 and 8 go together", Wrong::Excludes(|t, before| mmwave::is_known(t) && before.contains(&t))),
+    (
+        "4 may stand behind 8",
+        Wrong::Excludes(|t, before| if t == 4 { before.contains(&4) } else { excluded(t, before) }),
+    ),
+    (
+        "8 may stand behind 4",
+        Wrong::Excludes(|t, before| if t == 8 { before.contains(&8) } else { excluded(t, before) }),
+    ),
+    (
+        "4 and 8 are refused side by side only",
+        Wrong::Excludes(|t, before| match (t, before.last()) {
+            (4 | 8, Some(4 | 8)) => true,
+            _ => mmwave::is_known(t) && before.contains(&t),
+        }),
+    ),
+    ("5 and 8 do not go together", Wrong::Excludes(|t, before| excluded(t, before) || t == 8 && before.contains(&5))),
+    ("1 alone may not come again", Wrong::Excludes(|t, before| t == 1 && before.contains(&1))),
+    ("0 may not come again", Wrong::Excludes(also::<0>)),
+    ("10 may not come again", Wrong::Excludes(also::<10>)),
+    ("all bits may not come again", Wrong::Excludes(also::<{ u32::MAX }>)),
+    ("no type may come again", Wrong::Excludes(|t, before| excluded(t, before) || before.contains(&t))),
+    ("a type has 4 bits", Wrong::Excludes(masked::<0xF>)),
+    ("a type has 5 bits", Wrong::Excludes(masked::<0x1F>)),
+    ("a type has 8 bits", Wrong::Excludes(masked::<0xFF>)),
+    ("a type has 16 bits", Wrong::Excludes(masked::<0xFFFF>)),
+    ("a type has 24 bits", Wrong::Excludes(masked::<0x00FF_FFFF>)),
+    ("a type has 31 bits", Wrong::Excludes(masked::<0x7FFF_FFFF>)),
+    (
+        "only the record right before counts",
+        Wrong::Excludes(|t, before| excluded(t, &before[before.len().saturating_sub(1)..])),
+    ),
+    ("only the first record counts", Wrong::Excludes(|t, before| excluded(t, &before[..before.len().min(1)]))),
+    ("the first record does not count", Wrong::Excludes(|t, before| excluded(t, &before[before.len().min(1)..]))),
+    ("only the first eight records count", Wrong::Excludes(|t, before| excluded(t, &before[..before.len().min(8)]))),
+    (
+        "only the last eight records count",
+        Wrong::Excludes(|t, before| excluded(t, &before[before.len().saturating_sub(8)..])),
+    ),
+    (
+        "the last record may be of any type",
+        Wrong::Judge(|d, b| {
+            seen_as(d, b, 25, |b, place| match types_of(&b[..=place]).len() as u32 {
+                all if field(b, 32) == Some(all) => with_any_types(b),
+                _ => bad(25),
+            })
+        }),
+    ),
+    ("a repeated type is told as one that can't fit", Wrong::Judge(|d, b| seen_as(d, b, 25, |_, _| bad(23)))),
+    ("a repeated type is told as a wrong length", Wrong::Judge(|d, b| seen_as(d, b, 25, |_, _| bad(24)))),
+    ("a repeated type is told as a fixed field", Wrong::Judge(|d, b| seen_as(d, b, 25, |_, _| bad(26)))),
+    (
+        "23 goes before 25",
+        Wrong::Judge(|d, b| {
+            seen_as(d, b, 25, |b, place| match with_any_types(&b[..=place]) {
+                other if other.reason == 23 => other,
+                _ => bad(25),
+            })
+        }),
+    ),
+    (
+        "24 goes before 25",
+        Wrong::Judge(|d, b| {
+            seen_as(d, b, 25, |b, place| match with_any_types(&b[..b.len().min(place + 5)]) {
+                other if other.reason == 24 => other,
+                _ => bad(25),
+            })
+        }),
+    ),
+    (
+        "a repeated type is seen at its length",
+        Wrong::Judge(|d, b| seen_as(d, b, 25, |b, place| if b.len() < place + 5 { waiting() } else { bad(25) })),
+    ),
+    (
+        "a repeated type is seen at the packet's end",
+        Wrong::Judge(|d, b| {
+            seen_as(d, b, 25, |b, _| match with_any_types(b) {
+                other if other.state == WHOLE => bad(25),
+                other => other,
+            })
+        }),
+    ),
+    (
+        "a repeated type is seen at its first byte",
+        Wrong::Judge(|d, b| {
+            let right_then = |more: usize| right(d, &[b, &[0; 3][..more]].concat());
+            match right(d, b) {
+                now if d == 1 && now.state == WAITING && (1..=3).any(|more| right_then(more).reason == 25) => bad(25),
+                now => now,
+            }
+        }),
+    ),
+    (
+        "25 goes before 24 of a record before",
+        Wrong::Judge(|d, b| match right(d, b) {
+            right if d == 1 && right.reason == 24 && !repeated(b, excluded).is_empty() => bad(25),
+            right => right,
+        }),
+    ),
+    (
+        "25 goes before 22",
+        Wrong::Judge(|d, b| match right(d, b) {
+            right if d == 1 && right.reason == 22 && !repeated(b, excluded).is_empty() => bad(25),
+            right => right,
+        }),
+    ),
+    (
+        "the types of the packet before count",
+        Wrong::JudgeAt(|d, b, place| {
+            let answer = Reference.judge(d, b, place);
+            if answer.kind != 16 {
+                return answer;
+            }
+            let starts = (64..=512).step_by(32).filter_map(|length| place.checked_sub(length));
+            let packet =
+                starts.map(|start| &b[start..place]).find(|packet| right(d, packet).length == packet.len() as u64);
+            match packet {
+                Some(packet) if any_excluded(&[types_of(packet), types_of(&b[place..])].concat()) => bad(25),
+                _ => answer,
+            }
+        }),
+    ),
+    ("a type of vital signs comes once", Wrong::Rules(Rules { is_excluded: mmwave::is_excluded, ..RIGHT })),
+    (
+        "type 1 of vital signs comes once",
+        Wrong::Rules(Rules { is_excluded: |t, before| t == 1 && before.contains(&1), ..RIGHT }),
+    ),
+    (
+        "type 4 of vital signs comes once",
+        Wrong::Rules(Rules { is_excluded: |t, before| t == 4 && before.contains(&4), ..RIGHT }),
+    ),
+];
+
 #[test]
 fn wrong_judgements_are_found() {
-    for (name, wrong) in WRONG_JUDGEMENTS.iter().chain(WRONG_VITAL_SIGNS).chain(WRONG_EMPTY_BLOCKS) {
+    let lists = [WRONG_JUDGEMENTS, WRONG_VITAL_SIGNS, WRONG_EMPTY_BLOCKS, WRONG_TYPES];
+    for (name, wrong) in lists.into_iter().flatten() {
         let found = compare_judgements(wrong, first_seed(), JUDGEMENTS);
         assert!(found.is_err(), "not found: {name}");
+    }
+    // What those on types are made of is right.
+    for part in [Wrong::Excludes(excluded), Wrong::Excludes(but_for::<10>), Wrong::Excludes(masked::<{ u32::MAX }>)] {
+        agreed(compare_judgements(&part, first_seed(), JUDGEMENTS / 10));
     }
 }
 
@@ -1185,6 +1381,32 @@ fn jump_behind_bad_frames(closed: bool, dialect: u32, bytes: &[u8], table: &mut 
     Reading { rows: rows as u64, ..right }
 }
 
+/// Takes a packet for bad if one of its types may not stand behind those of the packets that were read before it.
+fn keep_types(closed: bool, dialect: u32, bytes: &[u8], table: &mut [u32]) -> Reading {
+    let right = right_reading(closed, dialect, bytes, &mut table.to_vec());
+    if !closed || dialect != 1 || right.refusal != 0 {
+        return right_reading(closed, dialect, bytes, table);
+    }
+    let (mut place, mut rows, mut skipped, mut types) = (0, 0, 0, Vec::new());
+    while place < bytes.len() {
+        let judgement = Reference.judge(dialect, bytes, place);
+        let with_its_own = [&types[..], &types_of(&bytes[place..])].concat();
+        if judgement.state != WHOLE || any_excluded(&with_its_own) {
+            skipped += 1;
+            place += 1;
+            continue;
+        }
+        let Some(row) = table.get_mut(ROW * rows..ROW * rows + ROW) else {
+            return Reading { rows: rows as u64, skipped, next: place as u64, state: 1, refusal: 0 };
+        };
+        row.copy_from_slice(&[place as u32, judgement.length as u32, judgement.kind]);
+        rows += 1;
+        place += judgement.length as usize;
+        types = with_its_own;
+    }
+    Reading { rows: rows as u64, skipped, next: place as u64, state: 2, refusal: 0 }
+}
+
 const WRONG_READINGS: &[(&str, Wrong)] = &[
     ("a bad frame's claimed length is jumped over", Wrong::Read(jump_behind_bad_frames)),
     ("the closed reading stops where a place waits", Wrong::Read(|_, d, b, table| Reference.open_reading(d, b, table))),
@@ -1285,6 +1507,7 @@ const WRONG_READINGS: &[(&str, Wrong)] = &[
             _ => right_reading(closed, d, b, table),
         }),
     ),
+    ("types are kept from one packet to the next", Wrong::Read(keep_types)),
 ];
 
 #[test]
@@ -1303,7 +1526,9 @@ fn wrong_answers_are_found_by_splitting() {
     assert_eq!(vital_signs.clone().count(), 2);
     let empty_blocks = WRONG_EMPTY_BLOCKS.iter().filter(|(name, _)| *name == "a broken block is seen at its end");
     assert_eq!(empty_blocks.clone().count(), 1);
-    for (name, wrong) in by_splitting.iter().chain(vital_signs).chain(empty_blocks) {
+    let types = WRONG_TYPES.iter().filter(|(name, _)| *name == "a repeated type is seen at its length");
+    assert_eq!(types.clone().count(), 1);
+    for (name, wrong) in by_splitting.iter().chain(vital_signs).chain(empty_blocks).chain(types) {
         let found = compare_splits(wrong, first_seed(), SPLIT_CAPTURES);
         assert!(found.is_err(), "not found: {name}");
     }

@@ -160,6 +160,60 @@ fn mmwave_judgements_of_all_small_packets() {
     println!("{fronts} fronts");
 }
 
+/// A payload length of a type that is legal with two objects; 2 for a free type.
+fn some_length(record_type: u32) -> u32 {
+    match record_type {
+        1 => 32,
+        7 => 8,
+        4 | 8 => 4,
+        6 => 24,
+        9 => 28,
+        _ => 2,
+    }
+}
+
+/// Known types and four free ones, two of these with the low bits of a known one.
+const TYPES: [u32; 13] = [0, 1, 2, 3, 4, 5, 6, 7, 8, 9, 10, 257, 1 << 31 | 4];
+
+/// Every three of the types in records that fit, judged about each type's end, at each length's end, and whole; then with an L
+/// that is 32 less, up to the third type.
+#[test]
+fn mmwave_judgements_of_repeated_types() {
+    let mut form = Form::of(MMWAVE);
+    let (mut repeated, mut whole) = (0, 0);
+    let mut check = |bytes: &[u8]| {
+        let judgement = at(MMWAVE, bytes, 0);
+        assert_eq!(judgement, form.judgement(bytes), "{bytes:?}");
+        judgement
+    };
+    for triple in (0..13 * 13 * 13).map(|number| [number / 169, number / 13 % 13, number % 13].map(|at| TYPES[at])) {
+        let mut bytes = packet_front(0, 2, 3, &[]);
+        let mut ends = Vec::new();
+        for record_type in triple {
+            bytes.extend(record_type.to_le_bytes());
+            bytes.extend(some_length(record_type).to_le_bytes());
+            ends.extend([5, 4, 3, 0].map(|before| bytes.len() - before));
+            bytes.resize(bytes.len() + some_length(record_type) as usize, 9);
+        }
+        bytes.resize(bytes.len().next_multiple_of(32), 9);
+        let total = bytes.len() as u32;
+        bytes[12..16].copy_from_slice(&total.to_le_bytes());
+        for end in ends.iter().copied().chain([bytes.len()]) {
+            let judgement = check(&bytes[..end]);
+            repeated += i32::from(judgement == Judgement::Bad { reason: 25 });
+            whole += i32::from(matches!(judgement, Judgement::Whole { .. }));
+        }
+        bytes[12..16].copy_from_slice(&(total - 32).to_le_bytes());
+        for &end in &ends[8..10] {
+            check(&bytes[..end]);
+        }
+    }
+    // With no, one, two and three known types: 4 * 4 * 4, 3 * 9 * 4 * 4, 3 * (9 * 8 - 2) * 4, 9 * 8 * 7 - 7 * 6.
+    assert_eq!(whole, 64 + 432 + 840 + 462);
+    // The second goes with the first in all but 9 + 2 pairs, seen at 8 ends; of the other triples, seen at 4, are 256 left.
+    assert_eq!(repeated, 11 * 13 * 8 + (2197 - 1798 - 11 * 13) * 4);
+}
+
 #[test]
 fn mmwave_judgements_at_the_limits_of_the_counts() {
     let mut form = Form::of(MMWAVE);

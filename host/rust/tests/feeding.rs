@@ -4,6 +4,8 @@
 //! The library is compared if `VQ_LIB_DIR` names the directory that holds `libvellanquor.a`. `VQ_SEED` gives another first
 //! seed than the usual one.
 
+mod tags;
+
 use radar_reference::abi::feeding::{Fed, FeedSubject, Stream};
 use radar_reference::abi::{Reference, Subject, WAITING};
 use radar_reference::compare::feeding::{
@@ -13,8 +15,10 @@ use radar_reference::compare::{first_seed, Difference, Tally};
 use radar_reference::generate::random::Random;
 use radar_reference::generate::{capture, Family};
 use radar_reference::judgement::{DIALECTS, MMWAVE, SIRAD, VITAL_SIGNS};
+use radar_reference::mmwave::is_excluded;
 use radar_reference::reading::ROW;
 use radar_reference::refusal::MAX_BYTES;
+use tags::{repeated, tags};
 
 const CALLS: u64 = 600_000;
 const MADE_UP: u64 = 200_000;
@@ -185,6 +189,27 @@ fn packets_of_both_dialects() {
             let row = [7, length as u32, kind];
             let behind = [rest, &[2, 1]].concat();
             assert_fed(dialect, waits, length, &behind, 3, Ok((&[row], stream(7 + length as u64, 2), &[2, 1])));
+        }
+    }
+}
+
+/// A type that comes again is given up when its fourth byte is there, wherever the bytes were cut (paper 02 (vii)); the same
+/// bytes are a vital-signs packet.
+#[test]
+fn a_repeated_type_across_calls() {
+    let packet = packet(&[1, 96, 3, 4, 5, 99, 3, 0, 2, 16, 0, 0, 0, 0, 3, 0, 2, 16, 0, 0, 0, 0]);
+    assert_eq!(packet.len(), 96);
+    for cut in 0..96 {
+        let (front, rest) = packet.split_at(cut);
+        let waits = (stream(7, cut as u64), front);
+        let row = [7, 96, 17];
+        assert_fed(VITAL_SIGNS, waits, 96, rest, 3, Ok((&[row], stream(103, 0), b"")));
+        if cut < 76 {
+            // Nothing else in the packet looks like a magic.
+            assert_fed(MMWAVE, FRESH, 96, front, 0, Ok((&[], stream(0, cut as u64), front)));
+            assert_fed(MMWAVE, waits, 96, &packet[cut..75], 0, Ok((&[], stream(7, 75), &packet[..75])));
+            assert_fed(MMWAVE, waits, 96, &packet[cut..76], 0, Ok((&[], stream(83, 0), b"")));
+            assert_fed(MMWAVE, waits, 96, &[rest, &[2, 1]].concat(), 0, Ok((&[], stream(103, 2), &[2, 1])));
         }
     }
 }
@@ -471,6 +496,47 @@ fn withhold_last(dialect: u32, before: Stream, carry: &mut [u8], bytes: &[u8], t
     Fed { refusal: 0, rows: fed.rows - 1, stream: stream(place, length as u64) }
 }
 
+/// The right answer as if the types at these places in the waiting and the new bytes were free.
+fn with_free_types(
+    (dialect, before): (u32, Stream),
+    carry: &mut [u8],
+    bytes: &[u8],
+    table: &mut [u32],
+    places: fn(&[u8], usize) -> Vec<usize>,
+) -> Fed {
+    if dialect != MMWAVE || [62, 3].contains(&answer(dialect, before, carry, bytes, table).refusal) {
+        return right(dialect, before, carry, bytes, table);
+    }
+    let waiting = before.waiting as usize;
+    let joined = [&carry[..waiting], bytes].concat();
+    let mut changed = joined.clone();
+    for place in places(&joined, waiting) {
+        changed[place..place + 4].copy_from_slice(&10u32.to_le_bytes());
+    }
+    let mut carry_after = [&changed[..waiting], &carry[waiting..]].concat();
+    let fed = right(dialect, before, &mut carry_after, &changed[waiting..], table);
+    if fed.refusal == 0 {
+        let rest = fed.stream.waiting as usize;
+        carry[..rest].copy_from_slice(&joined[joined.len() - rest..]);
+    }
+    fed
+}
+
+/// The types that come again, of every packet of which one does.
+fn all_repeated(bytes: &[u8], _: usize) -> Vec<usize> {
+    let bad = (0..bytes.len()).filter(|&place| Reference.judge(MMWAVE, bytes, place).reason == 25);
+    bad.flat_map(|start| repeated(&bytes[start..], is_excluded).into_iter().map(move |place| start + place)).collect()
+}
+
+/// The types that come again behind the waiting bytes and not among the others there.
+fn repeated_across(bytes: &[u8], waiting: usize) -> Vec<usize> {
+    let new: Vec<(usize, u32)> = tags(bytes).into_iter().filter(|&(place, _)| place >= waiting).collect();
+    let types: Vec<u32> = new.iter().map(|&(_, tag)| tag).collect();
+    let across = new.iter().enumerate().filter(|&(index, &(_, tag))| !is_excluded(tag, &types[..index]));
+    let across: Vec<usize> = across.map(|(_, &(place, _))| place).collect();
+    repeated(bytes, is_excluded).into_iter().filter(|place| across.contains(place)).collect()
+}
+
 /// Wrong in the joined rows, the state, or what a refusal leaves: found without the reader's feeder.
 const WRONG_STREAMS: &[(&str, Feed)] = &[
     ("places count from the call's first byte", |d, s, c, b, t| {
@@ -660,6 +726,8 @@ const WRONG_STREAMS: &[(&str, Feed)] = &[
         }
         fed => fed,
     }),
+    ("a type may come again", |d, s, c, b, t| with_free_types((d, s), c, b, t, all_repeated)),
+    ("types in the waiting bytes are forgotten", |d, s, c, b, t| with_free_types((d, s), c, b, t, repeated_across)),
 ];
 
 /// Wrong in what is refused, in its order, or in what stays behind rows and waiting bytes: found by comparing the calls.
@@ -854,9 +922,11 @@ fn wrong_feeders_are_found_in_one_capture() {
     assert_eq!(check(&Reference), Ok(()));
     let missed = WRONG_STREAMS.iter().chain(WRONG_CALLS).filter(|(_, wrong)| check(&Wrong(*wrong)).is_ok());
     let missed: Vec<&str> = missed.map(|(name, _)| *name).collect();
-    // These need long lines, dialects that there are not, or sizes that this capture does not have.
+    // These need long lines, dialects that there are not, or packets and sizes that this capture does not have.
     let expected = [
         "waiting bytes are counted in 16 bits",
+        "a type may come again",
+        "types in the waiting bytes are forgotten",
         "62 goes before 1",
         "3 goes before 1",
         "the waiting bytes have 32 bits",

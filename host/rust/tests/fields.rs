@@ -5,6 +5,7 @@
 //! seed than the usual one.
 
 mod editions;
+mod tags;
 
 use editions::{is_wrong, Renaming, OTHER_EDITIONS};
 use radar_reference::abi::fields::{
@@ -17,9 +18,11 @@ use radar_reference::compare::fields::{
     compare_written_frames,
 };
 use radar_reference::compare::{first_seed, Difference, Tally};
-use radar_reference::generate::mmwave::packet_of_points;
+use radar_reference::generate::mmwave::{packet_of, packet_of_points};
 use radar_reference::generate::random::Random;
+use radar_reference::mmwave::is_excluded;
 use radar_reference::numbers::EDITIONS;
+use tags::{repeated, tags};
 
 /// A comparison from a first seed on, over so many frames, packets or commands.
 type Comparison = fn(&dyn FieldSubject, u64, u64) -> Result<Tally, Difference>;
@@ -206,8 +209,8 @@ mod library {
 }
 
 /// The packets at the edges, and slices that are none: what the program packet_cases reads, each behind its length; then
-/// vital-signs packets, among them the least and one of both dialects, and each without its last byte; then points at
-/// halves and beside them, and with coordinates that are refused.
+/// vital-signs packets, among them the least and one of both dialects, and each without its last byte; then mmWave packets in
+/// which a type comes again; then points at halves and beside them, and with coordinates that are refused.
 fn slices() -> Vec<Vec<u8>> {
     let file = concat!(env!("CARGO_MANIFEST_DIR"), "/../../crates/packet_cases/stdin");
     let bytes = std::fs::read(file).expect(file);
@@ -222,6 +225,9 @@ fn slices() -> Vec<Vec<u8>> {
         slices.push(packet[..packet.len() - 1].to_vec());
         slices.push(packet);
     }
+    for types in [&[1, 1][..], &[1, 10, 1], &[4, 1, 8], &[8, 4], &[5, 5], &[10, 1, 10], &[0, 0]] {
+        slices.push(packet_of_types(types));
+    }
     let halves = (1..400u16).step_by(2).map(|sixteenths| f32::from(sixteenths) / 16.0);
     let beside = |half: f32| [f32::from_bits(half.to_bits() - 1), -half, f32::from_bits(half.to_bits() + 1), half];
     let halves: Vec<[f32; 4]> =
@@ -230,6 +236,12 @@ fn slices() -> Vec<Vec<u8>> {
     let refused = [[f32::INFINITY, 0.0625, 0.0625, 7.0], [0.0625, 1000.5, 0.0, 7.0], [0.0625, 0.0625, f32::NAN, 7.0]];
     slices.push(packet_of_points(&mut Random::new(1), &refused));
     slices
+}
+
+/// An mmWave packet of one object with these types, each record with other bytes.
+fn packet_of_types(types: &[u32]) -> Vec<u8> {
+    let records = (1..).zip(types).map(|(number, &record_type)| (record_type, vec![number; 16]));
+    packet_of(&mut Random::new(1), 1, records.collect())
 }
 
 /// A vital-signs packet with these types and payload lengths.
@@ -291,6 +303,33 @@ fn a_vital_signs_packet_is_read_of_kind_17() {
             assert_eq!(subject.step(kind, &both, 40), Step { refusal: 0, tag: 2, start: 48, length: 16, next: 64 });
         }
         assert_eq!(subject.point(1, &both, 0), Point { refusal: 7, ..Point::default() });
+    }
+}
+
+/// Packets in which a type comes again, of the reader and of the library: "a known type (1 to 9) that occurs again, or type 8
+/// with 4 present, or 4 with 8, is refused in dialect 1" (paper 02 (vii)).
+#[test]
+fn a_packet_with_a_repeated_type_is_none() {
+    for subject in subjects() {
+        for types in [&[1, 1][..], &[1, 10, 1], &[4, 1, 8], &[8, 1, 4], &[1, 5, 5], &[2, 1, 0, 2]] {
+            let packet = packet_of_types(types);
+            assert_eq!(subject.header(16, &packet), Header { refusal: 5, ..Header::default() }, "{types:?}");
+            assert_eq!(subject.record(16, &packet, 0), Record { refusal: 5, ..Record::default() }, "{types:?}");
+            assert_eq!(subject.step(16, &packet, 40), Step { refusal: 5, next: 40, ..Step::default() }, "{types:?}");
+            assert_eq!(subject.point(1, &packet, 0), Point { refusal: 5, ..Point::default() }, "{types:?}");
+        }
+        let packet = packet_of_types(&[10, 1, 10, 257, 257]);
+        assert_eq!(packet.len(), 160);
+        assert_eq!(subject.header(16, &packet).records, 5);
+        assert_eq!(subject.record(16, &packet, 2), Record { refusal: 0, tag: 10, start: 96, length: 16 });
+        assert_eq!(subject.step(16, &packet, 136), Step { refusal: 0, tag: 257, start: 144, length: 16, next: 160 });
+        // The bytes 2 2 2 2 are the float 9.6e-38.
+        assert_eq!(subject.point(1, &packet, 0), Point { doppler: 0x0202_0202, ..Point::default() });
+        // In vital signs a type may repeat.
+        let packet = vital_signs_packet(&[(2, 0), (2, 8), (4, 20), (4, 20), (1, 24), (1, 24)]);
+        assert_eq!(subject.header(17, &packet).records, 6);
+        assert_eq!(subject.record(17, &packet, 5), Record { refusal: 0, tag: 1, start: 160, length: 24 });
+        assert_eq!(subject.step(17, &packet, 48), Step { refusal: 0, tag: 2, start: 56, length: 8, next: 64 });
     }
 }
 
@@ -450,15 +489,6 @@ const WRONG_PACKETS: &[(&str, Wrong)] = &[
     ("a step from anywhere gives the first record", Wrong::Step(|kind, p, _| Reference.step(kind, p, 40))),
     ("a point's index has 32 bits", Wrong::Point(|e, p, index| Reference.point(e, p, index as u32 as usize))),
     (
-        "points come from the last record of type 1",
-        Wrong::Point(|e, p, index| {
-            let starts = starts_of(p, 1);
-            let others = starts.split_last().map_or(&[][..], |(_, others)| others);
-            let changed = others.iter().fold(p.to_vec(), |bytes, &start| word_with(&bytes, start, |_| 10));
-            Reference.point(e, &changed, index)
-        }),
-    ),
-    (
         "6 goes before 7",
         Wrong::Point(|e, p, index| match Reference.point(e, p, index) {
             right if right.refusal == 7 && index >= Reference.header(16, p).objects as usize => {
@@ -560,6 +590,87 @@ const WRONG_PACKETS: &[(&str, Wrong)] = &[
         Wrong::Point(|e, p, index| match Reference.point(e, p, index) {
             right if right.refusal == 5 && Reference.header(17, p).refusal == 0 => Point { refusal: 7, ..right },
             right => right,
+        }),
+    ),
+];
+
+/// The packet with a free type in these records, where it is asked for kind 16.
+fn freed(kind: u32, packet: &[u8], places: &[usize]) -> Vec<u8> {
+    let places = if kind == 16 { places } else { &[] };
+    places.iter().fold(packet.to_vec(), |bytes, &place| word_with(&bytes, place, |_| 10))
+}
+
+/// The packet as if its types could come again.
+fn forgiven(kind: u32, packet: &[u8]) -> Vec<u8> {
+    freed(kind, packet, &repeated(packet, is_excluded))
+}
+
+/// The record, with the type that stands in the packet.
+fn with_own_tag(packet: &[u8], record: Record) -> Record {
+    match record.refusal {
+        0 => Record { tag: word(packet, record.start as usize - 8).unwrap_or(0), ..record },
+        _ => record,
+    }
+}
+
+const WRONG_TYPES: &[(&str, Wrong)] = &[
+    ("a type may come again in a header's packet", Wrong::Header(|kind, p| Reference.header(kind, &forgiven(kind, p)))),
+    (
+        "a type may come again in a record's packet",
+        Wrong::Record(|kind, p, index| with_own_tag(p, Reference.record(kind, &forgiven(kind, p), index))),
+    ),
+    (
+        "records in front of a repeated type are read",
+        Wrong::Record(|kind, p, index| match tags(p).get(index) {
+            Some((place, _)) if repeated(p, is_excluded).first().is_some_and(|first| place < first) => {
+                Reference.record(kind, &forgiven(kind, p), index)
+            }
+            _ => Reference.record(kind, p, index),
+        }),
+    ),
+    (
+        "4 and 8 go together in a step's packet",
+        Wrong::Step(|kind, p, place| {
+            let only_4_and_8 = |tag: u32, before: &[u32]| is_excluded(tag, before) && !before.contains(&tag);
+            match Reference.step(kind, &freed(kind, p, &repeated(p, only_4_and_8)), place) {
+                step if step.refusal == 0 => Step { tag: word(p, place).unwrap_or(0), ..step },
+                step => step,
+            }
+        }),
+    ),
+    (
+        "a type may come again, and points come from the first record of type 1",
+        Wrong::Point(|e, p, index| Reference.point(e, &forgiven(16, p), index)),
+    ),
+    (
+        "a type may come again, and points come from the last record of type 1",
+        Wrong::Point(|e, p, index| {
+            let starts: Vec<usize> = tags(p).into_iter().filter(|&(_, tag)| tag == 1).map(|(place, _)| place).collect();
+            let others = starts.split_last().map_or(&[][..], |(_, others)| others);
+            Reference.point(e, &forgiven(16, &freed(16, p, others)), index)
+        }),
+    ),
+    (
+        "points of a packet with a repeated type are refused with 7",
+        Wrong::Point(|e, p, index| match Reference.point(e, p, index) {
+            right if right.refusal == 5 && Reference.header(16, &forgiven(16, p)).refusal == 0 => {
+                Point { refusal: 7, ..right }
+            }
+            right => right,
+        }),
+    ),
+    (
+        "no type may come again in a header's packet",
+        Wrong::Header(|kind, p| match repeated(p, |tag, before| before.contains(&tag)).is_empty() {
+            false if kind == 16 => Header { refusal: 5, ..Header::default() },
+            _ => Reference.header(kind, p),
+        }),
+    ),
+    (
+        "no type may come again in a header's packet of kind 17",
+        Wrong::Header(|kind, p| match repeated(p, is_excluded).is_empty() {
+            false => Header { refusal: 5, ..Header::default() },
+            true => Reference.header(kind, p),
         }),
     ),
 ];
@@ -1388,7 +1499,8 @@ fn every_wrong_reader_is_found_at_the_edges() {
         }
     }
     let slices = slices();
-    for (what, wrong) in WRONG_PACKETS.iter().chain(WRONG_POINTS).copied().chain(of_other_editions()) {
+    let lists = [WRONG_PACKETS, WRONG_TYPES, WRONG_POINTS];
+    for (what, wrong) in lists.concat().into_iter().chain(of_other_editions()) {
         assert!(slices.iter().any(|slice| check_throughout(&wrong, slice).is_err()), "{what}");
     }
 }
@@ -1403,6 +1515,7 @@ fn every_wrong_reader_is_found() {
     let others: Vec<_> = of_other_editions().collect();
     let lists = [
         (PACKETS, WRONG_PACKETS),
+        (PACKETS, WRONG_TYPES),
         (PACKETS, WRONG_POINTS),
         (PACKETS, &others),
         (COMMANDS, WRONG_COMMANDS),

@@ -1,10 +1,10 @@
 //! Judgements over grids: a SiRad frame of each kind, of T also with empty blocks of both forms, cut anywhere and with every
 //! value of every byte; packets of both packet dialects at the limits of every total length, with all types, payload lengths
-//! and object counts, false starts, cut and damaged.
+//! and object counts, mmWave with types that come again at all places, false starts, cut and damaged.
 //!
-//! The counts of SiRad and mmWave were made with the judgements of tests/expected/judge_cases.py, those of vital signs by
-//! trying which records fill a packet; neither knows anything of this reader. The library is judged too if `VQ_LIB_DIR`
-//! names the directory that holds the archive.
+//! The counts of SiRad and mmWave were made with the judgements of tests/expected/judge_cases.py, those of types that come again
+//! by hand, those of vital signs by trying which records fill a packet; none knows anything of this reader. The library is
+//! judged too if `VQ_LIB_DIR` names the directory that holds the archive.
 
 use radar_reference::abi::{Reference, Subject, BAD, WHOLE};
 use radar_reference::compare::check_judgement;
@@ -245,6 +245,50 @@ fn all_types_with_payloads_up_to_80_bytes() {
         }
     }
     grid.assert("types", [2965, 2349 + 9266, 0]);
+}
+
+/// Records of two types from 0 to 11, with a free one between them or without, judged whole and up to the third and the fourth
+/// byte of the second type. Of the 144 pairs 9 are of a known type twice, and 2 are 4 and 8.
+#[test]
+fn all_pairs_of_types() {
+    let mut grid = Grid::of(MMWAVE);
+    let mut bytes = filled();
+    let length = |kind| [5, 32, 2, 4, 8, 6, 24, 8, 12, 28].get(kind as usize).copied().unwrap_or(3);
+    for (first, second, between) in (0..288u32).map(|number| (number / 24, number / 2 % 12, number % 2)) {
+        let kinds = [&[first][..], &vec![10; between as usize], &[second]].concat();
+        let end = 40 + kinds.iter().map(|&kind| 8 + length(kind)).sum::<u32>();
+        header(&mut bytes, 0, end.next_multiple_of(32), 2, kinds.len() as u32);
+        let mut place = 40;
+        for kind in kinds {
+            record(&mut bytes, place, kind, length(kind));
+            place += 8 + length(kind) as usize;
+        }
+        let second_at = (end - 8 - length(second)) as usize;
+        grid.judge(&bytes[..end.next_multiple_of(32) as usize]);
+        grid.judge(&bytes[..second_at + 3]);
+        grid.judge(&bytes[..second_at + 4]);
+        let refused = first == second && (1..=9).contains(&first) || [first.min(second), first.max(second)] == [4, 8];
+        assert_eq!(Reference.judge(MMWAVE, &bytes[..second_at + 4], 0).reason, 25 * u32::from(refused));
+    }
+    grid.assert("pairs", [2 * 133, 2 * 11 + 2 * 11, 2 * 144 + 2 * 133]);
+}
+
+/// Type 5 at any two of 32 places, or 4 at one and 8 at another, and free types at all others.
+#[test]
+fn types_that_come_again_at_all_places() {
+    let mut grid = Grid::of(MMWAVE);
+    let mut bytes = filled();
+    header(&mut bytes, 0, 320, 0, 32);
+    for (first, second, kinds) in
+        (0..1024).flat_map(|number| [[5, 5], [4, 8]].map(|kinds| (number / 32, number % 32, kinds)))
+    {
+        (0..32).for_each(|index| record(&mut bytes, 40 + 8 * index, 10, 0));
+        put(&mut bytes, 40 + 8 * first, kinds[0]);
+        put(&mut bytes, 40 + 8 * second, kinds[1]);
+        grid.judge(&bytes[..320]);
+    }
+    // At one place stands the second alone.
+    grid.assert("places", [2 * 32, 2 * 32 * 31, 0]);
 }
 
 /// The first bytes of a header, then a packet: judged at both places.

@@ -1,9 +1,10 @@
 //! The papers' own values: every line of paper 01's "Values at the edges", its listing and its traps; the sentences of
-//! paper 02 (i), (ii) and (iv), one by one.
+//! paper 02 (i), (ii), (iv) and (vii), one by one.
 
 use radar_reference::judgement::{judge, Judgement, DIALECTS, MMWAVE, SIRAD, VITAL_SIGNS};
 use radar_reference::numbers::{accuracy_millimetres, decibels, millimetres, phase_hundredths, EDITIONS};
 use radar_reference::packet_rules::MAGIC;
+use radar_reference::proximity::anyone_close;
 use radar_reference::reading::{closed_reading, open_reading, Reading};
 use radar_reference::sirad_fields::{read_status, read_targets, write_targets, Target, Targets};
 use radar_reference::{listing, packet};
@@ -515,4 +516,182 @@ fn refusal_32_before_30_and_31_and_after_5_7_6() {
     }
     assert_eq!(EDITIONS.map(|edition| point_of(edition, [0.0, far, infinite])), [Err(31); 2]);
     assert_eq!(EDITIONS.map(|edition| point_of(edition, [infinite, far, 0.0])), [Err(30); 2]);
+}
+
+// Paper 02 (vii), each kind of record once, sentence by sentence.
+
+/// A packet's front with two objects and this L and K, then records of these types and payload lengths.
+fn front_of_records(total: u32, count: u32, records: &[(u32, u32)]) -> Vec<u8> {
+    let mut bytes = packet_front(total, count, &[]);
+    bytes[28] = 2;
+    for &(record_type, length) in records {
+        bytes.extend([record_type, length].iter().flat_map(|field| field.to_le_bytes()));
+        bytes.resize(bytes.len() + length as usize, 0);
+    }
+    bytes
+}
+
+/// A packet of two objects with records of these types, each of a legal length.
+fn packet_of_types(types: &[u32]) -> Vec<u8> {
+    let length = |record_type| match record_type {
+        1 => 32,
+        6 => 24,
+        9 => 28,
+        _ => 8,
+    };
+    let records: Vec<(u32, u32)> = types.iter().map(|&record_type| (record_type, length(record_type))).collect();
+    let end = 40 + records.iter().map(|(_, length)| 8 + length).sum::<u32>();
+    let total = end.next_multiple_of(32);
+    padded(front_of_records(total, types.len() as u32, &records), total as usize)
+}
+
+fn of_types(types: &[u32]) -> Result<Judgement, u32> {
+    judge(MMWAVE, &packet_of_types(types), 0)
+}
+
+/// Whole, as one that is all of its bytes.
+fn is_whole(types: &[u32]) -> bool {
+    of_types(types) == whole(16, packet_of_types(types).len())
+}
+
+#[test]
+fn a_known_type_that_occurs_again_is_refused() {
+    for first in 1..=9 {
+        assert!(is_whole(&[first]));
+        for second in 1..=9 {
+            let refused = first == second || [first, second] == [4, 8] || [first, second] == [8, 4];
+            for types in [&[first, second][..], &[first, 0, second], &[77, first, 10, 10, second, 77]] {
+                assert_eq!(of_types(types) == bad(25), refused, "{types:?}");
+                assert_eq!(is_whole(types), !refused, "{types:?}");
+            }
+        }
+    }
+}
+
+#[test]
+fn type_8_with_4_present_or_4_with_8_is_refused() {
+    for (first, second) in [(4, 8), (8, 4)] {
+        let others = [1, 2, 3, 5, 6, 7, 9];
+        assert!(is_whole(&[&[first], &others[..]].concat()));
+        assert!(is_whole(&[&others[..], &[second]].concat()));
+        assert_eq!(of_types(&[&[first], &others[..], &[second]].concat()), bad(25));
+        assert_eq!(of_types(&[&others[..], &[first, second]].concat()), bad(25));
+    }
+}
+
+#[test]
+fn types_outside_1_to_9_may_repeat() {
+    let look_alikes = (4..32).flat_map(|bit| (0..=9).map(move |known| known | 1 << bit));
+    for free in [0, 10, 11, 12, 15, 255, u32::MAX - 1, u32::MAX].into_iter().chain(look_alikes) {
+        assert!(is_whole(&[free, free, free]), "{free}");
+        // Nor does it count as the known type whose bits it has.
+        for known in [1, 4, 8, 9] {
+            assert!(is_whole(&[free, known, free]), "{free} {known}");
+            assert_eq!(of_types(&[known, free, known]), bad(25), "{free} {known}");
+        }
+    }
+    assert!(is_whole(&[0; 32]) && is_whole(&[u32::MAX; 32]));
+}
+
+#[test]
+fn it_is_refused_in_dialect_1_alone() {
+    let lengths = [24, 8, 16, 20];
+    for (first, second) in (0..16).map(|number| (number / 4, number % 4)) {
+        let [a, b] = [first, second].map(|index| lengths[index]);
+        let fields = |record_type: usize, length: u32| {
+            let words = [record_type as u32 + 1, length].map(u32::to_le_bytes);
+            [words.as_flattened(), &vec![0; length as usize]].concat()
+        };
+        let front = vital_signs_front([56 + a + b, 99, 2, 0], &[]);
+        let bytes = [front, fields(first, a), fields(second, b)].concat();
+        assert_eq!(judge(VITAL_SIGNS, &bytes, 0), whole(17, bytes.len()), "{first} {second}");
+        for end in 40..bytes.len() {
+            assert_eq!(judge(VITAL_SIGNS, &bytes[..end], 0), Ok(Judgement::Waiting), "{first} {second} {end}");
+        }
+    }
+    // The lengths are legal in both dialects, and L is.
+    for (record_type, first, second) in [(2, 0, 8), (2, 12, 28), (4, 20, 20)] {
+        let total = 56 + first + second;
+        let payload = vec![0; first as usize / 4];
+        let fields = [&[record_type, first], &payload[..], &[record_type, second]].concat();
+        let bytes = padded(vital_signs_front([total, 99, 2, 0], &fields), total as usize);
+        assert_eq!(judge(VITAL_SIGNS, &bytes, 0), whole(17, total as usize), "{record_type}");
+        assert_eq!(judge(MMWAVE, &bytes, 0), bad(25), "{record_type}");
+    }
+}
+
+#[test]
+fn a_free_type_can_always_fill_the_rest() {
+    // All types that go together, then one more record: no known type is left for it.
+    let known = [(1, 32), (2, 8), (3, 8), (4, 8), (5, 8), (6, 24), (7, 8), (9, 28)];
+    let end = 40 + known.iter().map(|(_, length)| 8 + length).sum::<u32>();
+    for total in [256, 1024, 32_768] {
+        let front = front_of_records(total, 9, &known);
+        assert_eq!(front.len(), end as usize);
+        for end in 0..=front.len() {
+            assert_eq!(judge(MMWAVE, &front[..end], 0), Ok(Judgement::Waiting), "{total} {end}");
+        }
+        for free in [0, 10, u32::MAX] {
+            let record = [free, total - end - 8].map(u32::to_le_bytes);
+            let bytes = padded([&front[..], record.as_flattened()].concat(), total as usize);
+            assert_eq!(judge(MMWAVE, &bytes, 0), whole(16, total as usize));
+        }
+        for again in 1..=9u32 {
+            assert_eq!(judge(MMWAVE, &[&front[..], &again.to_le_bytes()].concat(), 0), bad(25), "{again}");
+        }
+    }
+}
+
+#[test]
+fn refusal_25_is_seen_at_the_type_field_before_23() {
+    // A second record that could not fit either, and one that could.
+    for (record_type, length, total) in [(6, 24, 96), (1, 32, 96), (9, 28, 96), (6, 24, 512), (2, 8, 64), (4, 8, 96)] {
+        let front = front_of_records(total, 2, &[(record_type, length)]);
+        let type_at = front.len();
+        let bytes = [&front[..], &record_type.to_le_bytes(), &[0xFF; 4]].concat();
+        for end in 40..type_at + 4 {
+            assert_eq!(judge(MMWAVE, &bytes[..end], 0), Ok(Judgement::Waiting), "{record_type} {end}");
+        }
+        for end in type_at + 4..=bytes.len() {
+            assert_eq!(judge(MMWAVE, &bytes[..end], 0), bad(25), "{record_type} {end}");
+        }
+    }
+    // A fresh type that can't fit has 23, as the repeated one would have.
+    for (first, fresh) in [((6, 24), 9), ((9, 28), 6), ((6, 24), 1), ((2, 24), 6)] {
+        let front = front_of_records(96, 2, &[first]);
+        assert_eq!(judge(MMWAVE, &[&front[..], &u32::to_le_bytes(fresh)].concat(), 0), bad(23), "{fresh}");
+    }
+}
+
+#[test]
+fn what_is_checked_before_it_comes_first() {
+    // The record count, and a record's length, each with a type that would come again behind it.
+    assert_eq!(judge(MMWAVE, &padded(packet_front(64, 4, &[10, 0, 2, 0]), 64), 0), bad(22));
+    assert_eq!(judge(MMWAVE, &padded(packet_front(96, 2, &[2, 1, 2, 2]), 96), 0), bad(24));
+    assert_eq!(judge(MMWAVE, &padded(packet_front(96, 3, &[2, 0, 3, 1, 2, 0]), 96), 0), bad(24));
+    // The first record's type, which has no legal length without objects.
+    assert_eq!(judge(MMWAVE, &padded(packet_front(96, 2, &[1, 0, 1, 0]), 96), 0), bad(23));
+    assert_eq!(judge(MMWAVE, &padded(packet_front(96, 2, &[2, 0, 2, 1]), 96), 0), bad(25));
+}
+
+#[test]
+fn a_refused_packet_is_refused_everywhere() {
+    let two = packet_of_types(&[1, 1]);
+    let one = packet_of_types(&[10, 1, 10]);
+    assert_eq!((two.len(), one.len()), (128, 128));
+    let both = [&two[..], &one].concat();
+    let mut table = [0; 6];
+    let reading = Reading { rows: 1, skipped: 128, next: 256, state: 0 };
+    assert_eq!(open_reading(MMWAVE, &both, &mut table), Ok(reading));
+    assert_eq!(table, [128, 128, 16, 0, 0, 0]);
+    assert_eq!(closed_reading(MMWAVE, &both, &mut table), Ok(Reading { state: 2, ..reading }));
+    assert_eq!(packet::header(16, &two), Err(5));
+    assert_eq!(packet::record(16, &two, 0), Err(5));
+    assert_eq!(packet::step(16, &two, 40), Err(5));
+    assert_eq!(packet::point(1, &two, 0), Err(5));
+    assert_eq!(packet::point(1, &one, 1).map(|point| point.x), Ok(0));
+    // "The desk counted riders twice": the points of a packet with two records of them are not seen at all.
+    assert_eq!(anyone_close(MMWAVE, 1, 0, &two), Ok(None));
+    let close = anyone_close(MMWAVE, 1, 0, &both).unwrap().expect("the second packet has points");
+    assert_eq!((close.place, close.index), (128, 0));
 }

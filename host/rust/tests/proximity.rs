@@ -250,17 +250,39 @@ fn vital_signs_packet(record_type: u32, payload: &[u8]) -> Vec<u8> {
     bytes
 }
 
-/// "As field reading gives them": from the first record of type 1.
+/// "As field reading gives them": from the record of type 1.
 fn records() -> Vec<Case> {
     let mut cases = Vec::new();
-    let two = |first, second| packet_with(1, &[(1, &[first]), (1, &[second])]);
-    cases.extend(by_both("near in the first record of two", 300, &two(NEAR, FAR), close(0, 0)));
-    cases.extend(by_both("near in the second record of two", 300, &two(FAR, NEAR), NOBODY));
     let second = packet_with(2, &[(10, &[NEAR, NEAR]), (1, &[FAR, NEAR])]);
     cases.extend(by_both("the points come second", 300, &second, close(0, 1)));
     for other in [0, 2, 10, 257, 1 << 16 | 1, 1 << 24 | 1, u32::MAX] {
         cases.extend(by_both("near in another record", 300, &packet_with(1, &[(other, &[NEAR])]), NOBODY));
     }
+    cases
+}
+
+/// "Each kind of record once" (paper 02 (vii)): a packet with a repeated type does not stand, and its points are not seen.
+fn repeated_types() -> Vec<Case> {
+    let mut cases = Vec::new();
+    let two = |first, second| packet_with(1, &[(1, &[first]), (1, &[second])]);
+    cases.extend(by_both("near in the first of two records of type 1", 300, &two(NEAR, FAR), NOBODY));
+    cases.extend(by_both("near in the second of two records of type 1", 300, &two(FAR, NEAR), NOBODY));
+    cases.extend(by_both("near in both records of type 1", 300, &two(NEAR, NEAR), NOBODY));
+    let with = |before, between, after| packet_with(1, &[(before, &[]), (1, &[NEAR]), (between, &[]), (after, &[])]);
+    for types in [[10, 10, 1], [2, 10, 2], [10, 5, 5], [4, 10, 8], [8, 10, 4], [0, 4, 8], [0, 8, 4]] {
+        let [before, between, after] = types;
+        cases.extend(by_both("near beside a repeated type", 300, &with(before, between, after), NOBODY));
+    }
+    for types in [[10, 10, 10], [0, 0, 0], [257, 33, 257], [2, 3, 5], [4, 12, 5], [1 << 31 | 1, 10, 1 << 16 | 1]] {
+        let [before, between, after] = types;
+        cases.extend(by_both("near beside types that may repeat", 300, &with(before, between, after), close(0, 0)));
+    }
+    let near = packet(&[NEAR]);
+    let around = packet_of(&mut Random::new(1), 0, vec![(10, near.clone()), (5, Vec::new()), (5, Vec::new())]);
+    cases.extend(by_both("inside a packet with a repeated type", 300, &around, close(48, 0)));
+    let points_around = packet_of(&mut Random::new(1), 4, vec![(1, near.clone()), (1, near.clone())]);
+    cases.extend(by_both("inside its record of type 1", 300, &points_around, close(48, 0)));
+    cases.extend(by_both("behind a packet with a repeated type", 300, &[two(NEAR, FAR), near].concat(), close(96, 0)));
     cases
 }
 
@@ -298,8 +320,8 @@ fn refusals() -> Vec<Case> {
 }
 
 /// All cases.
-const CASES: [fn() -> Vec<Case>; 8] =
-    [coordinates, halves, distances, refused_coordinates, places, packets, records, refusals];
+const CASES: [fn() -> Vec<Case>; 9] =
+    [coordinates, halves, distances, refused_coordinates, places, packets, records, repeated_types, refusals];
 
 #[test]
 fn the_cases_are_answered() {

@@ -32,7 +32,8 @@ fn piece(random: &mut Random, reach: usize) -> Vec<u8> {
         // A packet as a payload, in one that is bad or whole.
         10 | 11 => broken_around(random, packet),
         12 => packet_of(random, 0, vec![(10, packet)]),
-        13 => vital_signs_around(packet),
+        13 => packet_of(random, 0, vec![(10, packet), (5, Vec::new()), (5, Vec::new())]),
+        14 => vital_signs_around(packet),
         _ => packet,
     }
 }
@@ -43,15 +44,20 @@ fn vital_signs_around(inside: Vec<u8>) -> Vec<u8> {
     joined([0x0305_0004, end_of(&records) as u32, 0x000A_1642, 0, 0, 99, 1, 0], &records)
 }
 
-/// A packet of points: mostly a few, with a second record of them now and then, or with another record in front.
+/// A packet of points: mostly a few, with other records in front now and then; or one that is bad, because a known type comes
+/// again or 4 stands beside 8.
 fn packet_near(random: &mut Random, reach: usize) -> Vec<u8> {
     let count = if random.once_in(24) { random.within(250, 300) } else { random.within(1, 5) };
     let mut points = || bytes_of_points(&(0..count).map(|_| point(random, reach)).collect::<Vec<_>>());
     let (first, second) = (points(), points());
-    let records = match random.below(6) {
+    let records = match random.below(12) {
         0 => vec![(1, first), (1, second)],
-        1 => vec![(10, second), (1, first)],
-        2 => vec![(257, second), (7, vec![0; 4 * count]), (1, first)],
+        1 => vec![(1, first), (10, Vec::new()), (1, second)],
+        2 => vec![(1, first), (5, Vec::new()), (5, Vec::new())],
+        3 => vec![(4, Vec::new()), (1, first), (8, Vec::new())],
+        4 => vec![(10, second), (1, first)],
+        5 => vec![(257, second), (7, vec![0; 4 * count]), (1, first)],
+        6 => vec![(10, second.clone()), (0, Vec::new()), (10, second), (1, first), (0, Vec::new())],
         _ => vec![(1, first)],
     };
     packet_of(random, count, records)
@@ -105,6 +111,7 @@ const AT_A_HALF: [[f32; 4]; 2] = [[0.01, 0.01, f32::INFINITY, 0.0], [0.0625, -0.
 #[cfg(test)]
 mod tests {
     use super::*;
+    use crate::judgement::{judge, Judgement};
     use crate::proximity::every_point;
 
     #[test]
@@ -125,6 +132,21 @@ mod tests {
         }
         assert!(readable > 2000 && zeros > 200 && at_limit > 100, "{readable} {zeros} {at_limit}");
         assert!(refused.iter().all(|&count| count > 100), "{refused:?}");
+    }
+
+    #[test]
+    fn packets_whose_points_are_seen_and_not_seen_are_made() {
+        let random = &mut Random::new(1);
+        let (mut seen, mut refused) = (0, 0);
+        for _ in 0..600 {
+            let bytes = packet_near(random, 600);
+            match judge(MMWAVE, &bytes, 0) {
+                Ok(Judgement::Whole { length, .. }) if length == bytes.len() => seen += 1,
+                Ok(Judgement::Bad { reason: 25 }) => refused += 1,
+                other => panic!("{other:?}"),
+            }
+        }
+        assert!(seen > 300 && refused > 150, "{seen} {refused}");
     }
 
     #[test]

@@ -14,7 +14,7 @@ struct Plan {
 }
 
 impl Plan {
-    /// Records of any types with legal payload lengths that take up at most `room` bytes with the header.
+    /// Records of any types, each known one once, with legal payload lengths that take up at most `room` bytes with the header.
     fn new(random: &mut Random, room: usize) -> Plan {
         let objects = match random.below(6) {
             0 => 0,
@@ -27,10 +27,13 @@ impl Plan {
             2 => 32,
             _ => random.within(1, 5),
         };
-        let mut records = Vec::new();
+        let mut records: Vec<Record> = Vec::new();
         let mut end = 40;
         for _ in 0..wanted {
-            let record_type = record_type(random);
+            let mut record_type = record_type(random);
+            if records.iter().any(|(other, ..)| rivals(record_type).contains(other)) {
+                record_type = free_type(random);
+            }
             let Some(length) = record_length(random, record_type, objects, room.saturating_sub(end + 8)) else {
                 continue;
             };
@@ -41,6 +44,14 @@ impl Plan {
             end += 8 + length;
         }
         Plan::around(objects as u32, records)
+    }
+
+    /// Puts a record of this type in, anywhere.
+    fn add(&mut self, random: &mut Random, record_type: u32) {
+        let length = record_length(random, record_type, self.objects as usize, 64).unwrap_or(0);
+        let index = random.within(0, self.records.len());
+        self.records.insert(index, (record_type, length as u32, payload(random, record_type, length)));
+        *self = Plan::around(self.objects, std::mem::take(&mut self.records));
     }
 
     /// The plan of a packet with these records and the counts that belong to them.
@@ -135,9 +146,52 @@ fn end_at_an_edge(random: &mut Random, plan: &mut Plan, room: usize) {
 
 fn record_type(random: &mut Random) -> u32 {
     match random.below(8) {
-        0 => random.pick(&[0, 10, 11, 255, 256, 257, 0x0100_0001, u32::MAX]),
+        0 => free_type(random),
         1 | 2 => 1,
         _ => random.within(1, 10) as u32,
+    }
+}
+
+/// A type outside 1 to 9, often one that comes again, or one with the low bits of a known type.
+fn free_type(random: &mut Random) -> u32 {
+    match random.below(4) {
+        0 => random.pick(&[11, 255, 256, u32::MAX]),
+        1 => random.within(1, 9) as u32 | 1 << random.within(4, 31),
+        _ => random.pick(&[0, 10]),
+    }
+}
+
+/// The types with which this one does not go: a known one again, and 4 with 8.
+fn rivals(record_type: u32) -> Vec<u32> {
+    match record_type {
+        4 | 8 => vec![4, 8],
+        1..=9 => vec![record_type],
+        _ => Vec::new(),
+    }
+}
+
+/// Puts one more record in, whose type does not go with one that is there; then L is too small for it or too great, a length
+/// is not that of its payload or not legal, or all else is right.
+fn repeat(random: &mut Random, plan: &mut Plan) {
+    if !plan.records.iter().any(|&(record_type, ..)| (1..=9).contains(&record_type)) {
+        let record_type = random.within(2, 6) as u32;
+        plan.add(random, record_type);
+    }
+    let known: Vec<u32> = plan.records.iter().flat_map(|&(record_type, ..)| rivals(record_type)).collect();
+    let record_type = random.pick(&known);
+    plan.add(random, record_type);
+    let index = random.below(plan.records.len());
+    let wrong = random.pick(&[0, 1, 2, 4, 16, u32::MAX]);
+    match random.below(8) {
+        0 | 1 => plan.total -= 32,
+        2 => plan.total += 32,
+        3 => plan.records[index].1 = wrong,
+        4 => {
+            let even = random.pick(&[2, 3, 4, 5, 8]);
+            plan.records.insert(index, (even, 3, vec![1; 3]));
+            *plan = Plan::around(plan.objects, std::mem::take(&mut plan.records));
+        }
+        _ => (),
     }
 }
 
@@ -179,7 +233,7 @@ pub(super) fn hostile(random: &mut Random, room: usize) -> Vec<u8> {
     }
     let wanted = random.pick(&[64, 96, 128, 256, 512]);
     let mut plan = Plan::new(random, room.min(wanted) / 32 * 32);
-    match random.below(20) {
+    match random.below(24) {
         // A true packet.
         0 => plan.bytes(random),
         // A false start.
@@ -282,6 +336,11 @@ pub(super) fn hostile(random: &mut Random, room: usize) -> Vec<u8> {
             let (record_type, length, objects) =
                 random.pick(&[(1, 16, 0x1000_0001), (1, 0, 0x1000_0000), (7, 4, 0x4000_0001), (7, 0, 0x4000_0000)]);
             Plan::around(objects, vec![(record_type, length, vec![1; length as usize])]).bytes(random)
+        }
+        // A known type again, or 4 beside 8.
+        19..23 => {
+            repeat(random, &mut plan);
+            plan.bytes(random)
         }
         // A packet with a header of 44 bytes; a packet at the greatest length.
         _ => {

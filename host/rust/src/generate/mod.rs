@@ -312,6 +312,23 @@ mod tests {
     }
 
     #[test]
+    fn free_types_come_again_in_whole_packets_and_known_ones_in_bad_ones() {
+        let mut random = Random::new(5);
+        let mut again = 0;
+        for _ in 0..500 {
+            let bytes = mmwave::packet(&mut random, 1024).unwrap();
+            let types = (0..).map_while(|index| crate::packet::record(16, &bytes, index).ok());
+            let types: Vec<u32> = types.map(|record| record.record_type).collect();
+            again += i32::from((0..types.len()).any(|index| types[..index].contains(&types[index])));
+        }
+        assert!(again > 50, "{again}");
+        let hostile = capture(MMWAVE, Family::Hostile, 1, 100_000);
+        let judgements = (0..hostile.len()).map(|place| judge(MMWAVE, &hostile, place));
+        let repeated = judgements.filter(|&judgement| judgement == Ok(Judgement::Bad { reason: 25 })).count();
+        assert!(repeated > 30, "{repeated}");
+    }
+
+    #[test]
     fn empty_blocks_of_both_forms_are_made_and_broken() {
         let mut random = Random::new(8);
         let (mut targets, mut of_0, mut of_value_0, mut frames_of_value_0) = (0, 0, 0, 0);

@@ -73,14 +73,20 @@ pub fn packet(random: &mut Random, room: usize) -> Option<Vec<u8>> {
 }
 
 /// A packet of at most `room` bytes, 64 at least, that is one of both packet dialects: 99 objects, subframe 0, no record of
-/// type 1, L a multiple of 32.
+/// type 1, each other type once, L a multiple of 32.
 pub fn of_both(random: &mut Random, room: usize) -> Vec<u8> {
-    let mut records = Plan::new(random, &[2, 3, 4], room).records;
-    while records.len() > 31 || (end_of(&records) + 8).next_multiple_of(32) > room {
+    let mut records: Vec<Record> = Vec::new();
+    for drawn in Plan::new(random, &[3, 4], room).records {
+        if records.iter().all(|(record_type, ..)| *record_type != drawn.0) {
+            records.push(drawn);
+        }
+    }
+    while (end_of(&records) + 8).next_multiple_of(32) > room {
         records.pop();
     }
     let start = end_of(&records) + 8;
-    records.push(record(random, 2, start.next_multiple_of(32) - start));
+    let rest = record(random, 2, start.next_multiple_of(32) - start);
+    records.insert(random.within(0, records.len()), rest);
     Plan::around(records).bytes(random)
 }
 

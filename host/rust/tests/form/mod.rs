@@ -1,5 +1,5 @@
-//! The papers' definitions taken at their word, as a second reader of short bytes (paper 01, "Judging a place"; paper 02 (i)
-//! and (ii)).
+//! The papers' definitions taken at their word, as a second reader of short bytes (paper 01, "Judging a place"; paper 02 (i),
+//! (ii) and (vii)).
 //!
 //! "A frame of a dialect is a sequence of bytes that, from its first to its last, has the form which the rules on the
 //! wires give. .. It stands at a place if the bytes from there begin with it. Further bytes complete a frame at a place if
@@ -13,8 +13,17 @@ use radar_reference::judgement::Judgement;
 
 const MAGIC: [u8; 8] = [2, 1, 4, 3, 6, 5, 8, 7];
 
-/// A search for a record: its place, the records behind it, the total length, the object count.
-type Search = (usize, u32, usize, u32);
+/// A search for a record.
+#[derive(Clone, PartialEq, Eq, Hash)]
+struct Search {
+    place: usize,
+    /// The records behind it.
+    behind: u32,
+    total: usize,
+    objects: u32,
+    /// The types of the records before it, but for those that may repeat.
+    before: Vec<u32>,
+}
 
 /// The form of a dialect, with what its searches have found so far: a type and a length, or nothing.
 pub struct Form {
@@ -93,6 +102,8 @@ impl Form {
                 32 | 40 if self.dialect == 2 => 26,
                 36 => 22,
                 _ => match self.record_field(&bytes[..end]) {
+                    // "25, seen at the type field, before 23."
+                    Some((_, true)) if !self.go_together(&types(&bytes[..end])) => 25,
                     Some((_, true)) => 23,
                     Some((_, false)) => 24,
                     None => panic!("{end} is not the end of a checked field"),
@@ -196,18 +207,20 @@ impl Form {
         }
         let mut frame = header.to_vec();
         frame.extend_from_slice(bytes.get(40..).unwrap_or_default());
-        let mut place = 40;
+        let mut search = Search { place: 40, behind: count, total, objects, before: Vec::new() };
         for behind in (0..count).rev() {
+            search.behind = behind;
+            let place = search.place;
             let (record_type, length) = match (field(&frame, place), field(&frame, place + 4)) {
                 (Some(record_type), Some(length)) => (record_type, length as usize),
                 (Some(record_type), None) => {
-                    let length = self.length_that_fits(&frame, record_type, place, behind, total, objects)?;
+                    let length = self.length_that_fits(&frame, record_type, &search)?;
                     (record_type, length)
                 }
-                (None, _) if frame.len() <= place => self.record_that_fits(place, behind, total, objects)?,
+                (None, _) if frame.len() <= place => self.record_that_fits(&search)?,
                 // A type that is there in part: one of the named ones, or one behind them.
                 (None, _) => (0..=10).chain([0xFF00_0000 | partial(&frame, place)]).find_map(|record_type| {
-                    let length = self.length_that_fits(&frame, record_type, place, behind, total, objects)?;
+                    let length = self.length_that_fits(&frame, record_type, &search)?;
                     agrees(&frame, place, record_type).then_some((record_type, length))
                 })?,
             };
@@ -228,7 +241,7 @@ impl Form {
             if frame.len() < end {
                 frame.resize(end, 0);
             }
-            place = end;
+            search = self.behind(&search, record_type, end);
         }
         frame.resize(total, 0);
         self.is_frame(&frame).is_some().then_some(frame)
@@ -251,31 +264,36 @@ impl Form {
         }
     }
 
-    /// Any type and length of a record at `place` with which the records can end so that the total fits: tries all.
-    fn record_that_fits(&mut self, place: usize, behind: u32, total: usize, objects: u32) -> Option<(u32, usize)> {
-        let key = (place, behind, total, objects);
-        if let Some(&found) = self.fits.get(&key) {
+    /// Whether records of these types may be in one packet.
+    fn go_together(&self, types: &[u32]) -> bool {
+        self.dialect != 1 || each_kind_once(types)
+    }
+
+    /// The search for the record behind one of this type, which ends at `end`.
+    fn behind(&self, search: &Search, record_type: u32, end: usize) -> Search {
+        let mut before = search.before.clone();
+        before.extend((self.dialect == 1 && (1..=9).contains(&record_type)).then_some(record_type));
+        Search { place: end, behind: search.behind.saturating_sub(1), before, ..*search }
+    }
+
+    /// Any type and length of a record with which the records can end so that the total fits: tries all.
+    fn record_that_fits(&mut self, search: &Search) -> Option<(u32, usize)> {
+        if let Some(&found) = self.fits.get(search) {
             return found;
         }
-        let found = (0..=10).find_map(|record_type| {
-            let length = self.length_that_fits(&[], record_type, place, behind, total, objects)?;
-            Some((record_type, length))
-        });
-        self.fits.insert(key, found);
+        let found =
+            (0..=10).find_map(|record_type| Some((record_type, self.length_that_fits(&[], record_type, search)?)));
+        self.fits.insert(search.clone(), found);
         found
     }
 
     /// A length of this record with which the records can end so that the total fits: tries all that agree with the bytes
     /// of it that are there.
-    fn length_that_fits(
-        &mut self,
-        there: &[u8],
-        record_type: u32,
-        place: usize,
-        behind: u32,
-        total: usize,
-        objects: u32,
-    ) -> Option<usize> {
+    fn length_that_fits(&mut self, there: &[u8], record_type: u32, search: &Search) -> Option<usize> {
+        let Search { place, behind, total, objects, .. } = *search;
+        if !self.go_together(&[&search.before[..], &[record_type]].concat()) {
+            return None;
+        }
         // The lengths that leave no room for the record headers behind are left out: nothing fits with them.
         let most = total.checked_sub(place + 8 * (behind as usize + 1))?;
         (0..=most).rev().find(|&length| {
@@ -285,7 +303,7 @@ impl Form {
                 && if behind == 0 {
                     (if self.dialect == 1 { end.next_multiple_of(32) } else { end }) == total
                 } else {
-                    self.record_that_fits(end, behind - 1, total, objects).is_some()
+                    self.record_that_fits(&self.behind(search, record_type, end)).is_some()
                 }
         })
     }
@@ -450,6 +468,23 @@ fn is_legal(record_type: u32, length: u64, objects: u32) -> bool {
     }
 }
 
+/// The types of the records, as far as these are there.
+fn types(bytes: &[u8]) -> Vec<u32> {
+    let (mut types, mut place) = (Vec::new(), 40);
+    while let Some(record_type) = field(bytes, place).filter(|_| types.len() < field(bytes, 32).unwrap_or(0) as usize) {
+        types.push(record_type);
+        let Some(length) = field(bytes, place + 4) else { break };
+        place += 8 + length as usize;
+    }
+    types
+}
+
+/// "Each kind of record once": no known type (1 to 9) twice, and not both 4 and 8.
+fn each_kind_once(types: &[u32]) -> bool {
+    let how_often = |wanted: u32| types.iter().filter(|&&record_type| record_type == wanted).count();
+    (1..=9).all(|known| how_often(known) <= 1) && how_often(4) + how_often(8) <= 1
+}
+
 /// All rules on a whole packet, for a sequence of bytes that has an end.
 fn is_packet(bytes: &[u8]) -> bool {
     let walk = || -> Option<usize> {
@@ -472,6 +507,7 @@ fn is_packet(bytes: &[u8]) -> bool {
         && bytes.starts_with(&MAGIC)
         && field(bytes, 12) == Some(bytes.len() as u32)
         && walk().is_some_and(|end| end.next_multiple_of(32) == bytes.len())
+        && each_kind_once(&types(bytes))
 }
 
 fn is_legal_vital_sign(record_type: u32, length: u64) -> bool {

@@ -1,9 +1,11 @@
 //! Readers that are wrong on whether anyone is close, each in one thing. They are put together from parts that are right:
 //! which packets there are, which points these have, which points are close, what is told of the first, and the refusals.
 
-use radar_reference::abi::fields::{FieldSubject, Record};
+use radar_reference::abi::fields::Record;
 use radar_reference::abi::proximity::{Closeness, ProximitySubject};
 use radar_reference::abi::{Judgement, Reference, Subject, BAD, WAITING, WHOLE};
+use radar_reference::mmwave::{self, is_excluded, is_known};
+use radar_reference::packet_rules::Rules;
 use radar_reference::refusal::{MAX_BYTES, MAX_DISTANCE};
 
 use crate::editions::{is_wrong, Renaming, OTHER_EDITIONS};
@@ -72,6 +74,8 @@ pub enum Wrong {
     Rows(fn(&[u8]) -> Vec<Row>),
     /// Another list of a packet's points.
     Points(fn(Asked, usize, Row) -> Vec<Seen>),
+    /// Packets whose types may come again, and their points.
+    AnyTypes(fn(Asked, usize, Row) -> Vec<Seen>),
     /// Another list of all points.
     All(fn(Asked, Vec<Seen>) -> Vec<Seen>),
     /// Another test of a point.
@@ -93,6 +97,7 @@ impl ProximitySubject for Wrong {
         match *self {
             Wrong::Rows(rows) => answer(asked, rows, points_of, |_, all| all, is_close, told),
             Wrong::Points(points) => answer(asked, rows, points, |_, all| all, is_close, told),
+            Wrong::AnyTypes(points) => answer(asked, of_any_types, points, |_, all| all, is_close, told),
             Wrong::All(change) => answer(asked, rows, points_of, change, is_close, told),
             Wrong::Test(test) => answer(asked, rows, points_of, |_, all| all, test, told),
             Wrong::Told(told) => answer(asked, rows, points_of, |_, all| all, is_close, told),
@@ -146,6 +151,7 @@ fn answer(
 pub const RIGHT_PARTS: &[(&str, Wrong)] = &[
     ("rows", Wrong::Rows(rows)),
     ("rows by the judgement", Wrong::Rows(|bytes| walk(bytes, judge, |_| 1))),
+    ("rows by the rule on types", Wrong::Rows(|bytes| with_types(bytes, is_excluded))),
     ("points", Wrong::Points(points_of)),
     ("all", Wrong::All(|_, all| all)),
     ("test", Wrong::Test(is_close)),
@@ -181,7 +187,7 @@ fn read(bytes: &[u8], closed: bool) -> Vec<Row> {
 }
 
 /// The reading by another judgement, or with another step at a place that is not whole; 0 ends it.
-fn walk(bytes: &[u8], judge: fn(&[u8], usize) -> Judgement, step: fn((Judgement, &[u8])) -> usize) -> Vec<Row> {
+fn walk(bytes: &[u8], judge: impl Fn(&[u8], usize) -> Judgement, step: fn((Judgement, &[u8])) -> usize) -> Vec<Row> {
     let (mut rows, mut place) = (Vec::new(), 0);
     while place < bytes.len() {
         let judgement = judge(bytes, place);
@@ -196,6 +202,16 @@ fn walk(bytes: &[u8], judge: fn(&[u8], usize) -> Judgement, step: fn((Judgement,
         }
     }
     rows
+}
+
+/// The reading with another rule on which types a type may not stand behind.
+fn with_types(bytes: &[u8], is_excluded: fn(u32, &[u32]) -> bool) -> Vec<Row> {
+    let rules = Rules { is_excluded, ..mmwave::RULES };
+    walk(bytes, |bytes, place| Ok(rules.judge(&bytes[place..])).into(), |_| 1)
+}
+
+fn of_any_types(bytes: &[u8]) -> Vec<Row> {
+    with_types(bytes, |_, _| false)
 }
 
 /// The total length that a packet's front claims, 1 if it says none.
@@ -213,11 +229,16 @@ fn points_from(asked: Asked, row: usize, packet: Row, pick: fn(&[Record]) -> Opt
     pick(&records).map_or_else(Vec::new, |record| points_in(asked, row, packet.0, record))
 }
 
-/// The records of a packet of either packet dialect: where the rows are right, of mmWave.
+/// The records of a packet of either packet dialect, also one of which a type comes again.
 fn records(packet: &[u8]) -> Vec<Record> {
-    let kind = if Reference.header(16, packet).refusal == 0 { 16 } else { 17 };
-    let all = (0..33).map(|index| Reference.record(kind, packet, index));
-    all.take_while(|record| record.refusal == 0).collect()
+    let word = |at: usize| u32::from_le_bytes(packet[at..at + 4].try_into().unwrap());
+    let mut start = 40;
+    let next = |_| {
+        let record = Record { refusal: 0, tag: word(start), start: start as u64 + 8, length: word(start + 4).into() };
+        start += 8 + record.length as usize;
+        record
+    };
+    (0..word(32)).map(next).collect()
 }
 
 fn points_in(asked: Asked, row: usize, place: usize, record: Record) -> Vec<Seen> {
@@ -252,7 +273,7 @@ fn at(place: usize, index: usize) -> Closeness {
 /// All of them, with those that take another edition for the one named.
 pub fn wrong_readers() -> Vec<(&'static str, Wrong)> {
     let others = OTHER_EDITIONS.iter().map(|&(what, other)| (what, Wrong::Edition(other)));
-    [WRONG_TESTS, WRONG_ROWS, WRONG_POINTS, WRONG_ORDERS, WRONG_TOLD, WRONG_REFUSALS, WRONG_ANSWERS]
+    [WRONG_TESTS, WRONG_ROWS, WRONG_TYPES, WRONG_POINTS, WRONG_ORDERS, WRONG_TOLD, WRONG_REFUSALS, WRONG_ANSWERS]
         .concat()
         .into_iter()
         .chain(others)
@@ -464,21 +485,61 @@ fn judge(bytes: &[u8], place: usize) -> Judgement {
     Reference.judge(1, bytes, place)
 }
 
-const WRONG_POINTS: &[(&str, Wrong)] = &[
+const WRONG_TYPES: &[(&str, Wrong)] = &[
+    ("a type may come again, and the first record of type 1 counts", Wrong::AnyTypes(points_of)),
     (
-        "every record of type 1 counts",
-        Wrong::Points(|asked, row, packet| {
+        "a type may come again, and the last record of type 1 counts",
+        Wrong::AnyTypes(|asked, row, packet| {
+            points_from(asked, row, packet, |records| records.iter().rev().copied().find(|record| record.tag == 1))
+        }),
+    ),
+    (
+        "a type may come again, and every record of type 1 counts",
+        Wrong::AnyTypes(|asked, row, packet| {
             let records = records(&asked.bytes[packet.0..packet.0 + packet.1]);
             let points = records.into_iter().filter(|record| record.tag == 1);
             points.flat_map(|record| points_in(asked, row, packet.0, record)).collect()
         }),
     ),
     (
-        "the last record of type 1 counts",
-        Wrong::Points(|asked, row, packet| {
-            points_from(asked, row, packet, |records| records.iter().rev().copied().find(|record| record.tag == 1))
+        "a packet with a repeated type is one without points",
+        Wrong::AnyTypes(|asked, row, packet| match judge(asked.bytes, packet.0).state {
+            WHOLE => points_of(asked, row, packet),
+            _ => Vec::new(),
         }),
     ),
+    (
+        "a packet with a repeated type ends the reading",
+        Wrong::Rows(|bytes| walk(bytes, judge, |(judgement, _)| usize::from(judgement.reason != 25))),
+    ),
+    (
+        "a packet with a repeated type is jumped over",
+        Wrong::Rows(|bytes| {
+            walk(bytes, judge, |(judgement, front)| if judgement.reason == 25 { claimed(front) } else { 1 })
+        }),
+    ),
+    ("1 may come again", Wrong::Rows(|bytes| with_types(bytes, |t, before| t != 1 && is_excluded(t, before)))),
+    ("1 alone may not come again", Wrong::Rows(|bytes| with_types(bytes, |t, before| t == 1 && before.contains(&1)))),
+    ("4 and 8 go together", Wrong::Rows(|bytes| with_types(bytes, |t, before| is_known(t) && before.contains(&t)))),
+    (
+        "only the record right before counts",
+        Wrong::Rows(|bytes| with_types(bytes, |t, before| is_excluded(t, &before[before.len().saturating_sub(1)..]))),
+    ),
+    (
+        "no type may come again",
+        Wrong::Rows(|bytes| with_types(bytes, |t, before| is_excluded(t, before) || before.contains(&t))),
+    ),
+    (
+        "a type that comes again has 8 bits",
+        Wrong::Rows(|bytes| {
+            with_types(bytes, |t, before| {
+                is_excluded(t & 0xFF, &before.iter().map(|other| other & 0xFF).collect::<Vec<_>>())
+            })
+        }),
+    ),
+];
+
+const WRONG_POINTS: &[(&str, Wrong)] = &[
     (
         "the first record must have type 1",
         Wrong::Points(|asked, row, packet| {
@@ -496,15 +557,6 @@ const WRONG_POINTS: &[(&str, Wrong)] = &[
         Wrong::Points(|asked, row, packet| {
             points_from(asked, row, packet, |records| {
                 records.first().copied().filter(|record| records.len() == 1 && record.tag == 1)
-            })
-        }),
-    ),
-    (
-        "two records of type 1 are none",
-        Wrong::Points(|asked, row, packet| {
-            points_from(asked, row, packet, |records| {
-                let mut points = records.iter().copied().filter(|record| record.tag == 1);
-                points.next().filter(|_| points.next().is_none())
             })
         }),
     ),
