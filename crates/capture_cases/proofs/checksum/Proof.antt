@@ -1,9 +1,9 @@
--- `capture_cases::byte_sum` meets its contract.
+-- `capture_cases::checksum` is safe and ends: its place stays within the bytes.
 use lib.ListN.{length}
 use Prim.Native.Nat.{_≤_, _-_}
 use borrow.Author.Needs.{needs}
-use Rattle.capture_cases.proofs.byte_sum.Statement.{statement}
-use Rattle.capture_cases.proofs.byte_sum.Tie as tie
+use Rattle.capture_cases.proofs.checksum.Statement.{statement}
+use Rattle.capture_cases.proofs.checksum.Tie as tie
 
 abbrev Inv-loop : tie.InvT-loop
 Inv-loop bytes sum₀ i₀ sum i = i ≤ length bytes
@@ -14,14 +14,11 @@ abbrev μ-loop : tie.MeasureT-loop
 loop-holds : tie.Need-loop-holds Inv-loop μ-loop
 loop-holds c = search needs
 
-shared-slice-read-wide-byte : tie.Need-shared-slice-read-wide-byte Inv-loop μ-loop
-shared-slice-read-wide-byte c = search needs
-
-wide-byte-requires : tie.Need-wide-byte-requires Inv-loop μ-loop
-wide-byte-requires c κs = search needs
+shared-slice-read-mixed : tie.Need-shared-slice-read-mixed Inv-loop μ-loop
+shared-slice-read-mixed c = search needs
 
 mixed-requires : tie.Need-mixed-requires Inv-loop μ-loop
-mixed-requires c κs = search needs
+mixed-requires c κs = tt
 
 add-i : tie.Need-add-i Inv-loop μ-loop
 add-i c = search needs
@@ -33,17 +30,16 @@ loop-again : tie.Need-loop-again Inv-loop μ-loop
 loop-again c = search needs
 
 returns : tie.Need-returns Inv-loop μ-loop
-returns c = search needs
+returns c = tt
 
-pub byte-sum-spec : {M : Type 1} → statement M
-byte-sum-spec =
+pub checksum-spec : {M : Type 1} → statement M
+checksum-spec =
     tie.close
     (tie.spec
     Inv-loop
     μ-loop
     loop-holds
-    shared-slice-read-wide-byte
-    wide-byte-requires
+    shared-slice-read-mixed
     mixed-requires
     add-i
     loop-less
