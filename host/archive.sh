@@ -4,12 +4,27 @@
 set -eu
 cd "$(dirname "$0")/.."
 faces="gateway readings feeder fields_sirad fields_sirad_write fields_packet fields_command door"
+work=$(mktemp -d) && trap 'rm -rf "$work"' EXIT
+rt check $faces >"$work/log" 2>&1 || { cat "$work/log"; exit 1; }
+
+# One face for each processor at a time. rt writes its logs below the folder of crates.txt, so each face has a folder of its own, with links
+# to the crates and to what is proved of them.
+root=$PWD
+build() {
+  mkdir -p "$work/$1/target"
+  ln -s "$root/crates.txt" "$root/crates" "$work/$1"
+  ln -s "$root/target/rlib" "$root/target/stamp" "$work/$1/target"
+  (cd "$work/$1" && rt staticlib "$1") >"$work/$1.log" 2>&1 || { cat "$work/$1.log"; exit 1; }
+}
+export root work
+export -f build
+printf '%s\n' $faces | xargs -P "$(nproc)" -n 1 bash -c 'build "$0"'
+
 built=target/staticlib
 mkdir -p $built
-
 script="create $built/libvellanquor.a"
 for face in $faces; do
-  rt staticlib $face >target/archive.log 2>&1 || { cat target/archive.log; exit 1; }
+  mv "$work/$face/target/staticlib/lib$face.a" $built
   script="$script
 addlib $built/lib$face.a"
 done

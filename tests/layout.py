@@ -1,13 +1,13 @@
-"""Fails on a line that is too long, a must-fail edit that is not named FUNCTION-WHAT after a public function of its crate,
-and a public function of a library that asks its caller for something."""
-import pathlib
+"""Fails on a line that is too long, a must-fail edit whose wrong answers are not named FUNCTION-WHAT after a public function of its crate,
+a label that stands twice, and a public function of a library that asks its caller for something."""
 import re
 import sys
 
-root = pathlib.Path(__file__).resolve().parent.parent
+from edits import ROOT as root, edits, labels
+
 LONGEST = 140
 wrong = []
-lines = edits = functions = 0
+lines = answers = functions = 0
 
 for crate in sorted((root / "crates").iterdir()):
     for part in ("src", "specs", "proofs"):
@@ -26,13 +26,16 @@ for crate in sorted((root / "crates").iterdir()):
     for name, signature in public.items():
         if (crate / "src" / "lib.rt").exists() and "requires {" in signature:
             wrong.append(f"crates/{crate.name}: pub fn {name} has a requires")
-    for edit in sorted((crate / "must-fail").glob("*.edit")):
-        edits += 1
-        named = re.fullmatch(r"(\w+)-[a-z0-9]+(-[a-z0-9]+)*", edit.stem)
-        if not named or named[1] not in public:
-            wrong.append(f"{edit.relative_to(root)}: the label is not a public function of the crate, and words joined by '-'")
+    named = [label for edit in edits(crate) for label in labels(edit)]
+    answers += len(named)
+    for label in named:
+        found = re.fullmatch(r"(\w+)-[a-z0-9]+(-[a-z0-9]+)*", label)
+        if not found or found[1] not in public:
+            wrong.append(f"crates/{crate.name}/must-fail: {label} is not a public function of the crate, and words joined by '-'")
+        if named.count(label) > 1:
+            wrong.append(f"crates/{crate.name}/must-fail: {label} stands twice")
 
 for row in wrong:
     print("layout:", row)
-print(f"layout: {lines} lines, {functions} public functions, {edits} edits; {len(wrong)} wrong")
+print(f"layout: {lines} lines, {functions} public functions, {answers} wrong answers tried; {len(wrong)} wrong")
 sys.exit(bool(wrong))

@@ -1,13 +1,13 @@
 """Looks up every name of docs/TRACE.md in the tree.
 
 In backquotes: `crate::function` is a function of src/, `crate.name` a definition or theorem of specs/ or proofs/,
-`crate/must-fail/LABEL` an edit, and anything else with a slash a file. A name that is not found is printed.
+`crate/must-fail/LABEL` a wrong answer of an edit, and anything else with a slash a file. A name that is not found is printed.
 """
-import pathlib
 import re
 import sys
 
-ROOT = pathlib.Path(__file__).resolve().parent.parent
+from edits import ROOT, edits, labels
+
 TRACE = ROOT / "docs" / "TRACE.md"
 
 
@@ -21,7 +21,8 @@ def exists(name):
         crate, function = name.split("::")
         return re.search(r"\bfn %s\b" % re.escape(function), text_of(crate, ["src"], "*.rt")) is not None
     if "/must-fail/" in name:
-        return (ROOT / "crates" / (name + ".edit")).is_file()
+        crate, label = name.split("/must-fail/")
+        return any(label in labels(edit) for edit in edits(ROOT / "crates" / crate))
     if "/" in name:
         return (ROOT / name).exists()
     if "." in name:
