@@ -1,11 +1,12 @@
 """Fails on a line that is too long, a must-fail edit whose wrong answers are not named FUNCTION-WHAT after a public function of its crate,
-a label that stands twice, and a public function of a library that asks its caller for something."""
+more than four of them in one edit, a label that stands twice, and a public function of a library that asks its caller for something."""
 import re
 import sys
 
 from edits import ROOT as root, edits, labels
 
 LONGEST = 140
+MOST_ANSWERS = 4
 wrong = []
 lines = answers = functions = 0
 
@@ -26,6 +27,7 @@ for crate in sorted((root / "crates").iterdir()):
     for name, signature in public.items():
         if (crate / "src" / "lib.rt").exists() and "requires {" in signature:
             wrong.append(f"crates/{crate.name}: pub fn {name} has a requires")
+    wrong += [f"{edit.relative_to(root)}: over {MOST_ANSWERS} wrong answers" for edit in edits(crate) if len(labels(edit)) > MOST_ANSWERS]
     named = [label for edit in edits(crate) for label in labels(edit)]
     answers += len(named)
     for label in named:
