@@ -1,5 +1,5 @@
-"""The must-fail edits. Each tries one wrong answer, FUNCTION-WHAT, or one to each of several functions that do not call each other: then the
-edit's name has their labels, joined by `-+-`, and a line `answer: FUNCTION-WHAT` stands before the changes of each."""
+"""The must-fail edits. Each tries one wrong answer, FUNCTION-WHAT, or one to each of several functions that do not call each other: then
+the edit's name has their labels, joined by `-+-`, and a line `answer: FUNCTION-WHAT` stands before the changes of each."""
 import pathlib
 import re
 

@@ -1,18 +1,18 @@
 """Each wrong answer of the must-fail edits is refused by itself, as the logs of rt ci or rt must-fail under target/must-fail say.
 
-rt counts an edit as refused if anything in it is. Here each function that an answer changes is refused at a fact of its own proof; a changed
-constant is seen so by a function that names it. A function is proved against the promises of those that it calls, so where none of the
-changed functions calls another, each is refused as if it were changed alone; `it calls` is what the log says of a function that is not
-proved because of another, and that does not count here. The function that an answer is named after is not proved either. Then each log is
-made wrong for each answer, and that has to be seen.
+rt counts an edit as refused if anything in it is. Here each function that an answer changes is refused at a fact of its own proof; a
+changed constant is seen so by a function that names it. A function is proved against the promises of those that it calls, so where none
+of the changed functions calls another, each is refused as if it were changed alone; `it calls` is what the log says of a function that is
+not proved because of another, and that does not count here. The function that an answer is named after is not proved either. Then each
+log is made wrong for each answer, and that has to be seen.
 """
 import re
 import sys
 
 from edits import ROOT, changes, edits, labels
 
-# No fact of the function: a name that is not there, a lemma that rests on another, lemmas that the last step cannot put together. A proof that
-# does not fit the code's shape says no more than this.
+# No fact of the function: a name that is not there, a lemma that rests on another, lemmas that the last step cannot put together. A proof
+# that does not fit the code's shape says no more than this.
 UNFIT = re.compile(r"has no field|can be named from here|was not admitted|^`[^`]*-spec`")
 
 
@@ -29,11 +29,15 @@ def changed(crate, file, old):
     [(name, is_function)] = [(n, f) for n, f, start, end in items(source) if start <= at < end]
     if is_function:
         return {name}
-    names, grown = {name}, True
-    while grown:
-        more = {n for n, _, start, end in items(source) if any(re.search(rf"\b{k}\b", source[start:end]) for k in names)}
-        names, grown = names | more, not more <= names
-    return {n for n, f, _, _ in items(source) if f and n in names}
+
+    def naming(constants, functions):
+        texts = [(n, source[start:end]) for n, f, start, end in items(source) if f == functions]
+        return {n for n, text in texts if any(re.search(rf"\b{c}\b", text) for c in constants)}
+
+    constants = {name}
+    while not naming(constants, False) <= constants:
+        constants |= naming(constants, False)
+    return naming(constants, True)
 
 
 def verdict_of(function):
