@@ -305,10 +305,6 @@ frame-class k bs f = table-is-form k bs .0 f .each
 pub frame-kind : (k : ℕ) (bs : List ℕ) → Frame sirad k bs → (1 ≤ k) × (k ≤ 6)
 frame-kind k bs f = let r = form-row k bs f in (r .some, r .most)
 
--- the bytes behind the identifier follow the row of the kind
-pub frame-row : (k : ℕ) (bs : List ℕ) → Frame sirad k bs → Passes (classes (rowOf k (hexAt 4 2 bs)) (drop 2 bs)) (drop 2 bs)
-frame-row k bs f = form-row k bs f .passes
-
 -- no frame is shorter than 8 bytes
 pub total-least : (k n : ℕ) → 8 ≤ total k n
 total-least k n =
