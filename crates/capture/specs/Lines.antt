@@ -3,42 +3,42 @@ use Rattle.std.specs.Prelude.{Bool, true, false, cond, ◌≡◌, List, [], ◌�
 use Rattle.std.specs.Borrow.{Bor}
 use Rattle.reading.specs.Reading.{reading}
 use Rattle.reading.specs.declared.Row.{Row}
-use Rattle.capture.specs.Dialects.{judgeOf}
-use Rattle.capture.specs.Entries.{maxBytes}
+use Rattle.capture.specs.Dialects.{judge_of}
+use Rattle.capture.specs.Entries.{max_bytes}
 use Rattle.capture.specs.declared.Asked.{Asked}
 use Rattle.capture.specs.declared.Asked.TheVariants.{Known, Unknown}
 use Rattle.capture.specs.declared.Dialect.{Dialect}
 use Rattle.capture.specs.declared.Part.{Part}
 
 -- the rows of the closed reading, with room for all of them
-unfoldable pub closedRows : Dialect → List ℕ → List Row
-closedRows d bs = (reading (judgeOf d) true (length bs) bs).rows
+unfoldable pub closed_rows : Dialect → List ℕ → List Row
+closed_rows d bs = (reading (judge_of d) true (length bs) bs).rows
 
 -- the first of the rows; zeros where there is none
-abbrev pub firstRow : List Row → Row
-firstRow [] = record { offset = 0; size = 0; kind = 0 }
-firstRow (w ∷ ws) = w
+abbrev pub first_row : List Row → Row
+first_row [] = record { offset = 0; size = 0; kind = 0 }
+first_row (w ∷ ws) = w
 
 -- the part of a line that is a row's frame
-abbrev pub rowPart : Bool → Row → Part
-rowPart standby w = record { standby = standby; offset = w.offset; size = w.size }
+abbrev pub row_part : Bool → Row → Part
+row_part standby w = record { standby = standby; offset = w.offset; size = w.size }
 
 -- an empty part of the main line
-abbrev pub emptyPart : Part
-emptyPart = record { standby = false; offset = 0; size = 0 }
+abbrev pub empty_part : Part
+empty_part = record { standby = false; offset = 0; size = 0 }
 
 -- the first row of the main line; where it has none, that of the standby line; else an empty part of the main line
 unfoldable pub chosen : List Row → List Row → Part
-chosen (w ∷ ws) others = rowPart false w
-chosen [] (w ∷ ws) = rowPart true w
-chosen [] [] = emptyPart
+chosen (w ∷ ws) others = row_part false w
+chosen [] (w ∷ ws) = row_part true w
+chosen [] [] = empty_part
 
 -- which part of which line; an empty one for a dialect or a line (either one) that 1 or 3 refuses
-unfoldable pub partOf : Asked → List ℕ → List ℕ → Part
-partOf Unknown main standby = emptyPart
-partOf (Known d) main standby =
-    cond (ltb maxBytes (length main)) emptyPart
-    (cond (ltb maxBytes (length standby)) emptyPart (chosen (closedRows d main) (closedRows d standby)))
+unfoldable pub part_of : Asked → List ℕ → List ℕ → Part
+part_of Unknown main standby = empty_part
+part_of (Known d) main standby =
+    cond (ltb max_bytes (length main)) empty_part
+    (cond (ltb max_bytes (length standby)) empty_part (chosen (closed_rows d main) (closed_rows d standby)))
 
 -- the line that a part is of
 abbrev pub line_of : {A : Type 0} → Part → A → A → A

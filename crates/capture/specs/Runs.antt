@@ -1,7 +1,7 @@
 -- A stream that is fed in pieces, call by call, and what its rows are (paper 02, (iii)).
 use Rattle.std.specs.Prelude.{◌≡◌, List, [], ◌++◌, ℕ, ◌*◌, ◌≤◌, false, length, take, drop}
-use Rattle.reading.specs.Reading.{reading, flat, rowWidth}
-use Rattle.capture.specs.Dialects.{judgeOf}
+use Rattle.reading.specs.Reading.{reading, flat, row_width}
+use Rattle.capture.specs.Dialects.{judge_of}
 use Rattle.capture.specs.Feeding.{Feeds}
 use Rattle.capture.specs.declared.Dialect.{Dialect}
 use Rattle.capture.specs.declared.Stream.{Stream}
@@ -19,7 +19,7 @@ pub data Run (dialect : ℕ) : Stream → List ℕ → List ℕ → List ℕ →
   -- an accepted call
   call : {s : Stream} {carry bs numbers : List ℕ} → Run dialect s carry bs numbers
       → (bytes table : List ℕ) (r : Fed) (carry' table' : List ℕ) → Feeds dialect s carry bytes table r carry' table' → r.refusal ≡ 0
-      → Run dialect r.stream carry' (bs ++ bytes) (numbers ++ take (rowWidth * r.rows) table')
+      → Run dialect r.stream carry' (bs ++ bytes) (numbers ++ take (row_width * r.rows) table')
   -- a refused call, of any dialect, changes nothing
   refusal : {s : Stream} {carry bs numbers : List ℕ} → Run dialect s carry bs numbers
       → (other : ℕ) (bytes table : List ℕ) (r : Fed) (carry' table' : List ℕ) → Feeds other s carry bytes table r carry' table'
@@ -34,8 +34,8 @@ pub data Run (dialect : ℕ) : Stream → List ℕ → List ℕ → List ℕ →
 -- the stream's bytes at once: its rows' numbers are those of their open reading with room for them, its state is that reading's next
 -- place and how many bytes are left from there on, and these lie at the carry's start
 pub record AsOne (d : Dialect) (s : Stream) (carry bs numbers : List ℕ) : Type 0 where
-  pub rows : (room : ℕ) → length (reading (judgeOf d) false (length bs) bs).rows ≤ room
-      → numbers ≡ flat (reading (judgeOf d) false room bs).rows
-  pub offset : s.offset ≡ (reading (judgeOf d) false (length bs) bs).next
+  pub rows : (room : ℕ) → length (reading (judge_of d) false (length bs) bs).rows ≤ room
+      → numbers ≡ flat (reading (judge_of d) false room bs).rows
+  pub offset : s.offset ≡ (reading (judge_of d) false (length bs) bs).next
   pub waiting : s.waiting ≡ length (drop s.offset bs)
   pub carried : take s.waiting carry ≡ drop s.offset bs

@@ -1,14 +1,14 @@
 // The dialects by their numbers, and the byte that starts their frames (paper 01, "Judging a place"; paper 02, (i)).
 
 ghost use Rattle.std.specs.Prelude.{◌≡◌};
-ghost use Rattle.capture.specs.Dialects.{dialectOf, packetNumber, dialectNumber, start_of};
+ghost use Rattle.capture.specs.Dialects.{dialect_of, packet_number, dialect_number, start_of};
 
 use capture::{Asked, Dialect};
 use mmwave::PacketDialect;
 
 // The dialect that a number asks for.
 pub fn dialect_of(number: u32) -> Asked
-    ensures { result ≡ dialectOf number }
+    ensures { result ≡ dialect_of number }
 {
     match number {
         0 => Asked::Known(Dialect::Sirad),
@@ -20,7 +20,7 @@ pub fn dialect_of(number: u32) -> Asked
 
 // The number of a packet dialect.
 fn packet_number(d: PacketDialect) -> u32
-    ensures { result ≡ packetNumber d }
+    ensures { result ≡ packet_number d }
 {
     match d {
         PacketDialect::MmWave => 1,
@@ -30,7 +30,7 @@ fn packet_number(d: PacketDialect) -> u32
 
 // The number of a dialect.
 pub fn number_of(d: Dialect) -> u32
-    ensures { result ≡ dialectNumber d }
+    ensures { result ≡ dialect_number d }
 {
     match d {
         Dialect::Sirad => 0,

@@ -1,9 +1,9 @@
 // The judgement at an offset, by a dialect's number (paper 01, "Judging a place"; paper 02, (i)). The dialects are handed on for callers.
 
 ghost use Rattle.std.specs.Prelude.{◌≡◌, ◌+◌, ltb, drop};
-ghost use Rattle.capture.specs.Dialects.{form_of, judgeOf};
+ghost use Rattle.capture.specs.Dialects.{form_of, judge_of};
 ghost use Rattle.form.specs.Numbers.{Judges};
-ghost use Rattle.capture.specs.Entries.{maxBytes, verdict, JudgesAt};
+ghost use Rattle.capture.specs.Entries.{max_bytes, verdict, JudgesAt};
 
 use capture::{Asked, Dialect, Verdict};
 pub use capture_dialects::{dialect_of, number_of, start_byte};
@@ -22,7 +22,7 @@ pub const TOO_MANY_BYTES: u32 = 3;
 // Whether a stream of so many bytes, `front` and `back` behind the first `offset`, is over the size limit; no sum can overflow.
 // `too_long(1048576, 0, 0)` is false, `too_long(1048576, 0, 1)` true.
 pub fn too_long(offset: usize, front: usize, back: usize) -> bool
-    ensures { result ≡ ltb maxBytes (offset + front + back) }
+    ensures { result ≡ ltb max_bytes (offset + front + back) }
 {
     if MAX_BYTES < offset {
         return true;
@@ -35,7 +35,7 @@ pub fn too_long(offset: usize, front: usize, back: usize) -> bool
 }
 
 fn judge_part(bytes: &[u8], d: Dialect) -> Judgement
-    ensures { result ≡ judgeOf d bytes.now }
+    ensures { result ≡ judge_of d bytes.now }
 {
     match d {
         Dialect::Sirad => sirad_judge::judge(bytes),

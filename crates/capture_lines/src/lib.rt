@@ -1,9 +1,9 @@
 // The choice between two lines (paper 01, "Two lines").
 
 ghost use Rattle.std.specs.Prelude.{◌≡◌, true, false, cond, ◌+◌, ◌≤◌, ◌<◌, length};
-ghost use Rattle.capture.specs.Dialects.{dialectOf};
-ghost use Rattle.capture.specs.Lines.{closedRows, firstRow, rowPart, partOf, RefersTo};
-ghost use Rattle.capture.specs.Entries.{maxBytes};
+ghost use Rattle.capture.specs.Dialects.{dialect_of};
+ghost use Rattle.capture.specs.Lines.{closed_rows, first_row, row_part, part_of, RefersTo};
+ghost use Rattle.capture.specs.Entries.{max_bytes};
 
 use capture::{Asked, Dialect, Part};
 use capture_judge::{MAX_BYTES, dialect_of, number_of};
@@ -12,8 +12,8 @@ use reading::Row;
 
 // The first row of a line's closed reading, or zeros where it has none: no frame is empty.
 fn first_frame(line: &[u8], d: Dialect) -> Row
-    requires { length line.now ≤ maxBytes }
-    ensures { result ≡ firstRow (closedRows d line.now) }
+    requires { length line.now ≤ max_bytes }
+    ensures { result ≡ first_row (closed_rows d line.now) }
 {
     let mut table = [0u32; 3];
     let number = number_of(d);
@@ -25,7 +25,7 @@ fn first_frame(line: &[u8], d: Dialect) -> Row
 }
 
 fn row_part(standby: bool, w: Row) -> Part
-    ensures { result ≡ rowPart standby w }
+    ensures { result ≡ row_part standby w }
 {
     Part {
         standby: standby,
@@ -35,7 +35,7 @@ fn row_part(standby: bool, w: Row) -> Part
 }
 
 fn choose_known(main: &[u8], standby: &[u8], d: Dialect) -> Part
-    ensures { result ≡ partOf (Asked.Known d) main.now standby.now }
+    ensures { result ≡ part_of (Asked.Known d) main.now standby.now }
 {
     if MAX_BYTES < main.len() {
         return Part {
@@ -68,7 +68,7 @@ fn choose_known(main: &[u8], standby: &[u8], d: Dialect) -> Part
 
 // Which part of which line is the first frame: of the main line, or, where it has none, of the standby line.
 pub fn choose_part(dialect: u32, main: &[u8], standby: &[u8]) -> Part
-    ensures { result ≡ partOf (dialectOf dialect) main.now standby.now }
+    ensures { result ≡ part_of (dialect_of dialect) main.now standby.now }
 {
     match dialect_of(dialect) {
         Asked::Known(d) => choose_known(main, standby, d),
@@ -93,7 +93,7 @@ fn line_of<'a, 'b: 'a>(main: &'a [u8], standby: &'b [u8], back: bool) -> &'a [u8
 
 // That part itself: of the lines `noise` and `?!E0000\r\n` it is the last eight bytes of the second.
 pub fn choose_line<'a, 'b: 'a>(dialect: u32, main: &'a [u8], standby: &'b [u8]) -> &'a [u8]
-    ensures { RefersTo (partOf (dialectOf dialect) main.now standby.now) main.entry standby.entry result }
+    ensures { RefersTo (part_of (dialect_of dialect) main.now standby.now) main.entry standby.entry result }
 {
     let p = choose_part(dialect, main, standby);
     let line = line_of(main, standby, p.standby);

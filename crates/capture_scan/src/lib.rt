@@ -1,12 +1,12 @@
 // The next start byte: what a reading may pass without a judgement. Nothing here is a rule of the papers.
 
 ghost use Rattle.std.specs.Prelude.{◌≡◌, ◌+◌, ◌≤◌, ◌<◌, length, get_or};
-ghost use Rattle.capture.specs.Internal.{Clear, clearFor, nextMark, startsAgain};
+ghost use Rattle.capture.specs.Internal.{Clear, clear_for, next_mark, starts_again};
 
 // Whether none of the next `n` bytes is the mark. No branch in the loop, so that many bytes are compared at once.
 fn misses(bytes: &[u8], from: usize, n: usize, mark: u8) -> bool
     requires { from + n ≤ length bytes.now }
-    ensures { result ≡ clearFor mark from n bytes.now }
+    ensures { result ≡ clear_for mark from n bytes.now }
 {
     let mut ok = true;
     let mut i: usize = 0;
@@ -49,7 +49,7 @@ fn few(bytes: &[u8], from: usize, n: usize, mark: u8) -> usize
 // The offset of the next mark at or behind `from`, or of the end (`from` where it is beyond).
 // Marks close to each other are met byte by byte, others 32 bytes at a time.
 pub fn find(bytes: &[u8], from: usize, mark: u8) -> usize
-    ensures { result ≡ nextMark mark from bytes.now }
+    ensures { result ≡ next_mark mark from bytes.now }
 {
     if bytes.len() < from {
         return from;
@@ -72,7 +72,7 @@ pub fn find(bytes: &[u8], from: usize, mark: u8) -> usize
 
 // Whether the start byte comes again one or two bytes behind this one, where no frame has it.
 pub fn starts_again(bytes: &[u8], at: usize, mark: u8) -> bool
-    ensures { result ≡ startsAgain mark bytes.now at }
+    ensures { result ≡ starts_again mark bytes.now at }
 {
     if bytes.len() < at {
         return false;

@@ -1,11 +1,11 @@
 // The input of the programs that run cases: slices one after another, each behind its length in four bytes, least significant first.
 ghost use Rattle.std.specs.Prelude.{◌≡◌};
-ghost use Rattle.case_input.specs.Cases.{caseEnd, case_at};
+ghost use Rattle.case_input.specs.Cases.{case_end, case_at};
 
 // Where the case at an offset ends; 0 where no whole case is there.
 // `case_end(b"\x02\0\0\0!R", 0)` is 6.
 pub fn case_end(input: &[u8], at: usize) -> usize
-    ensures { result ≡ caseEnd input.now at }
+    ensures { result ≡ case_end input.now at }
 {
     if input.len() < at {
         return 0;

@@ -10,10 +10,10 @@ use borrow.Author.Tests.{ltb-true, ltb-false, lt-ltb, le-ltb}
 use mir.Syntax.{w32}
 use mir.Val.{SFits, to_z, of_z}
 use mir.Facts.{to_z_pos, to_z-of_z}
-use Rattle.digits.specs.Bytes.{isCharacter}
-use Rattle.digits.proofs.Choices.{test, within-bounds}
-use Rattle.units.specs.Rounding.{distance, toAway, nearest}
-use Rattle.units.specs.Units.{value, refused, decibels, centidegreesOf, centidegrees}
+use Rattle.digits.specs.Bytes.{is_character}
+use Rattle.digits.proofs.Choices.{test, within_bounds}
+use Rattle.units.specs.Rounding.{distance, to_away, nearest}
+use Rattle.units.specs.Units.{value, refused, decibels, centidegrees_of, centidegrees}
 
 -- -- The phase
 
@@ -23,19 +23,19 @@ turned c = (335127 * (c + 110 - 144) + 1024) / 2048
 
 -- from 144 on it is half a turn and the nearest whole number, below it half a turn less that; the 220 steps of a turn miss 60 parts, and no
 -- phase is within 93 parts of a half
-turned_up : (c : ℕ) → 144 ≤ c → c ≤ 254 → (18000 ≤ turned c) × (nearest toAway (1800 * (c - 144)) 11 ≡ turned c - 18000)
+turned_up : (c : ℕ) → 144 ≤ c → c ≤ 254 → (18000 ≤ turned c) × (nearest to_away (1800 * (c - 144)) 11 ≡ turned c - 18000)
 unfolding nearest
 turned_up c least most = (omega arith, omega arith)
 
 turned_down : (c : ℕ) → 34 ≤ c → c < 144
-    → (turned c < 18000) × (nearest toAway (1800 * (144 - c)) 11 ≡ suc (18000 - suc (turned c)))
+    → (turned c < 18000) × (nearest to_away (1800 * (144 - c)) 11 ≡ suc (18000 - suc (turned c)))
 unfolding nearest
 turned_down c least most = (omega arith, omega arith)
 
 -- without the half turn it is the phase
-pub turned-back : (c : ℕ) → isCharacter c ≡ true → pos (turned c) -ℤ pos 18000 ≡ centidegreesOf c
-turned-back c is =
-    let b = within-bounds 34 254 c is in
+pub turned_back : (c : ℕ) → is_character c ≡ true → pos (turned c) -ℤ pos 18000 ≡ centidegrees_of c
+turned_back c is =
+    let b = within_bounds 34 254 c is in
     test
     (ltb c 144)
     (λ t.
@@ -50,8 +50,8 @@ turned-back c is =
 -- -- In the machine's numbers
 
 -- taking a number off what 32 bits hold does not overflow
-pub less-fits : {q k : ℕ} → k < 2 ^ 31 → SFits w32 (pos q) → SFits w32 (to_z w32 q -ℤ pos (suc k))
-less-fits {q} {k} small fits =
+pub less_fits : {q k : ℕ} → k < 2 ^ 31 → SFits w32 (pos q) → SFits w32 (to_z w32 q -ℤ pos (suc k))
+less_fits {q} {k} small fits =
     rw (to_z_pos w32 {n = q} fits.sfits)
     (test
     (ltb q (suc k))
@@ -61,28 +61,28 @@ less-fits {q} {k} small fits =
 -- and gives the difference
 less : (q k : ℕ) → k < 2 ^ 31 → SFits w32 (pos q) → to_z w32 (of_z w32 (to_z w32 q -ℤ pos (suc k))) ≡ pos q -ℤ pos (suc k)
 less q k small fits =
-    to_z-of_z {w = w32} {z = to_z w32 q -ℤ pos (suc k)} (less-fits small fits)
+    to_z-of_z {w = w32} {z = to_z w32 q -ℤ pos (suc k)} (less_fits small fits)
     ∙ ap (λ (z : ℤ). z -ℤ pos (suc k)) (to_z_pos w32 {n = q} fits.sfits)
 
-module _ (c : ℕ) (is : isCharacter c ≡ true) where
+module _ (c : ℕ) (is : is_character c ≡ true) where
   -- the code's number is the dB
-  pub decibels-value : value (to_z w32 (of_z w32 (to_z w32 c -ℤ pos 174))) ≡ decibels c
+  pub decibels_value : value (to_z w32 (of_z w32 (to_z w32 c -ℤ pos 174))) ≡ decibels c
   unfolding decibels
-  decibels-value = rw is (ap value (less c 173 (omega arith) record { sfits = omega (arith, within-bounds 34 254 c is) }))
+  decibels_value = rw is (ap value (less c 173 (omega arith) record { sfits = omega (arith, within_bounds 34 254 c is) }))
 
   -- the code's number is the phase
-  pub centidegrees-value : value (to_z w32 (of_z w32 (to_z w32 (turned c) -ℤ pos 18000))) ≡ centidegrees c
+  pub centidegrees_value : value (to_z w32 (of_z w32 (to_z w32 (turned c) -ℤ pos 18000))) ≡ centidegrees c
   unfolding centidegrees
-  centidegrees-value =
-      let fits : SFits w32 (pos (turned c)) = record { sfits = omega (arith, within-bounds 34 254 c is) } in
-      rw is (ap value (less (turned c) 17999 (omega arith) fits ∙ turned-back c is))
+  centidegrees_value =
+      let fits : SFits w32 (pos (turned c)) = record { sfits = omega (arith, within_bounds 34 254 c is) } in
+      rw is (ap value (less (turned c) 17999 (omega arith) fits ∙ turned_back c is))
 
 -- neither for any other byte
-module _ (c : ℕ) (is-not : isCharacter c ≡ false) where
-  pub decibels-refused : refused 50 ≡ decibels c
+module _ (c : ℕ) (is-not : is_character c ≡ false) where
+  pub decibels_refused : refused 50 ≡ decibels c
   unfolding decibels
-  decibels-refused = simp is-not
+  decibels_refused = simp is-not
 
-  pub centidegrees-refused : refused 50 ≡ centidegrees c
+  pub centidegrees_refused : refused 50 ≡ centidegrees c
   unfolding centidegrees
-  centidegrees-refused = simp is-not
+  centidegrees_refused = simp is-not

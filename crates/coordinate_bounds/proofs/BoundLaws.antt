@@ -18,22 +18,22 @@ use Rattle.digits.proofs.Choices.{test, either, both_ways, and_parts, and_both}
 use Rattle.units.specs.declared.Quantity.{Quantity}
 use Rattle.units.specs.Float.{negative, significand, scale, magnitude}
 use Rattle.units.specs.Rounding.{nearest}
-use Rattle.units.specs.Units.{Edition, tiesOf, coordinate, millimetres}
-use Rattle.units.proofs.Bits.{within-limit, limit-bits}
-use Rattle.units.proofs.Rising.{nearest-rises, magnitude-rises}
-use Rattle.units.proofs.Rounding.{natAbs-signed}
-use Rattle.units.proofs.Theorems.{edition-exactly, no-edition, millimetres-0, millimetres-32, given}
-use Rattle.coordinate_bounds.specs.Bounds.{isWithin, maxDistance, signLast, Bounds, Greatest}
+use Rattle.units.specs.Units.{Edition, ties_of, coordinate, millimetres}
+use Rattle.units.proofs.Bits.{within_limit, limit_bits}
+use Rattle.units.proofs.Rising.{nearest_rises, magnitude_rises}
+use Rattle.units.proofs.Rounding.{nat_abs_signed}
+use Rattle.units.proofs.Theorems.{edition_exactly, no_edition, millimetres_0, millimetres_32, given}
+use Rattle.coordinate_bounds.specs.Bounds.{is_within, max_distance, sign_last, Bounds, Greatest}
 
 -- of 32 bits the first is the sign
-pub turned_left : (bits : ℕ) → bits < 2 ^ 32 → 2 * (bits % 2 ^ 31) + bits / 2 ^ 31 ≡ signLast bits
-unfolding signLast
+pub turned_left : (bits : ℕ) → bits < 2 ^ 32 → 2 * (bits % 2 ^ 31) + bits / 2 ^ 31 ≡ sign_last bits
+unfolding sign_last
 turned_left bits l = omega arith
 
 -- with the sign last, the bits compare with a limit that leaves room for it as they do without
-sign-last-most : (b bits : ℕ) → leb (b % 2 ^ 31) bits ≡ leb (signLast b) (2 * bits + 1)
-unfolding signLast
-sign-last-most b bits =
+sign_last_most : (b bits : ℕ) → leb (b % 2 ^ 31) bits ≡ leb (sign_last b) (2 * bits + 1)
+unfolding sign_last
+sign_last_most b bits =
     test (leb (b % 2 ^ 31) bits)
     (λ t. t ∙ sym (le-leb (2 * (b % 2 ^ 31) + b / 2 ^ 31 % 2) (2 * bits + 1) (omega (arith, leb-true (b % 2 ^ 31) bits t))))
     (λ f. f ∙ sym (lt-leb (2 * (b % 2 ^ 31) + b / 2 ^ 31 % 2) (2 * bits + 1) (omega (arith, leb-false (b % 2 ^ 31) bits f))))
@@ -41,24 +41,24 @@ sign-last-most b bits =
 module _ (edition d : ℕ) where
   -- the float with these bits is within the distance
   abbrev pub Within : ℕ → Type 0
-  Within bits = isWithin d (millimetres edition bits) ≡ true
+  Within bits = is_within d (millimetres edition bits) ≡ true
 
   -- the magnitude of an answer that is no refusal
   answered : (bits : ℕ) → (millimetres edition bits).refusal ≡ 0
-      → nat_abs (millimetres edition bits).value ≡ nearest (tiesOf edition) (1000 * magnitude bits) (2 ^ 150)
-  answered bits h = ap nat_abs (given edition bits h) ∙ natAbs-signed (negative bits) _
+      → nat_abs (millimetres edition bits).value ≡ nearest (ties_of edition) (1000 * magnitude bits) (2 ^ 150)
+  answered bits h = ap nat_abs (given edition bits h) ∙ nat_abs_signed (negative bits) _
 
   -- what is within stays within for lesser bits
   falls : (a b : ℕ) → a % 2 ^ 31 ≤ b % 2 ^ 31 → Within b → Within a
   falls a b l w =
       let both = and_parts (eqb (millimetres edition b).refusal 0) (leb (nat_abs (millimetres edition b).value) d) w in
       let e = eqb-true (millimetres edition b).refusal 0 both.0 in
-      let m = (millimetres-0 edition b).0 e in
+      let m = (millimetres_0 edition b).0 e in
       let n = m.1 in
-      let f : (millimetres edition a).refusal ≡ 0 = (millimetres-0 edition a).1
-      (m.0, (λ x. n (omega arith)), le_trans (magnitude-rises a b l) m.2) in
-      let rises = nearest-rises (tiesOf edition) (1000 * magnitude a) (1000 * magnitude b) (2 ^ 150) (lit< tt)
-      (mul-le-mul_left 1000 (magnitude-rises a b l)) in
+      let f : (millimetres edition a).refusal ≡ 0 = (millimetres_0 edition a).1
+      (m.0, (λ x. n (omega arith)), le_trans (magnitude_rises a b l) m.2) in
+      let rises = nearest_rises (ties_of edition) (1000 * magnitude a) (1000 * magnitude b) (2 ^ 150) (lit< tt)
+      (mul-le-mul_left 1000 (magnitude_rises a b l)) in
       let most = leb-true (nat_abs (millimetres edition b).value) d both.1 in
       and_both (eqb (millimetres edition a).refusal 0) (leb (nat_abs (millimetres edition a).value) d)
       (eq-eqb (millimetres edition a).refusal 0 f)
@@ -66,7 +66,7 @@ module _ (edition d : ℕ) where
 
   -- no distance is less than that of 0
   nought : Edition edition → Within 0
-  unfolding millimetres coordinate tiesOf significand scale nearest
+  unfolding millimetres coordinate ties_of significand scale nearest
   nought (inl e) = rw e (le-leb 0 d (omega arith))
   nought (inr e) = rw e (le-leb 0 d (omega arith))
 
@@ -74,8 +74,8 @@ module _ (edition d : ℕ) where
 
   module _ (bits : ℕ) (q : Quantity) (e : q ≡ millimetres edition bits) where
     -- a float that is refused is not within
-    pub refused-not-within : (q.refusal ≡ 0 → ⊥) → false ≡ isWithin d (millimetres edition bits)
-    refused-not-within n = rw (← e, ne_eqb q.refusal 0 n) refl
+    pub refused_not_within : (q.refusal ≡ 0 → ⊥) → false ≡ is_within d (millimetres edition bits)
+    refused_not_within n = rw (← e, ne_eqb q.refusal 0 n) refl
 
     module _ (sure : q.refusal ≡ 0) (fits : SFits w32 q.value) where
       held : to_z w32 (of_z w32 q.value) ≡ q.value
@@ -84,14 +84,14 @@ module _ (edition d : ℕ) where
       -- without a sign its millimetres are a natural number
       pub natural : bits < 2 ^ 31 → T (non_neg (to_z w32 (of_z w32 q.value))) × Fits w32 (nat_abs (to_z w32 (of_z w32 q.value)))
       natural l =
-          let m = nearest (tiesOf edition) (1000 * magnitude bits) (2 ^ 150) in
+          let m = nearest (ties_of edition) (1000 * magnitude bits) (2 ^ 150) in
           let plain : q.value ≡ pos m = ap (λ (x : Quantity). x.value) e ∙ given edition bits (rw e at sure)
           ∙ rw (ne_eqb (bits / 2 ^ 31) 1 (λ x. omega arith)) refl in
           let most = (subst (SFits w32) plain fits).sfits in
           rw (held, plain) (tt, record { fits = omega arith })
 
       -- and it is within exactly if they are at most the distance
-      pub measured : leb (nat_abs (to_z w32 (of_z w32 q.value))) d ≡ isWithin d (millimetres edition bits)
+      pub measured : leb (nat_abs (to_z w32 (of_z w32 q.value))) d ≡ is_within d (millimetres edition bits)
       measured = rw (← e, held, eq-eqb q.refusal 0 sure) refl
 
   -- -- The search
@@ -101,40 +101,40 @@ module _ (edition d : ℕ) where
     pub apart : low < high
     pub small : high ≤ 0x447A0001
     pub inside : (low ≡ 0) ⊎ Within low
-    pub outside : isWithin d (millimetres edition high) ≡ false
+    pub outside : is_within d (millimetres edition high) ≡ false
 
-  pub narrowed-start : Narrowed 0 0x447A0001
-  narrowed-start = record { apart = lit< tt; small = omega arith; inside = inl refl; outside = far }
+  pub narrowed_start : Narrowed 0 0x447A0001
+  narrowed_start = record { apart = lit< tt; small = omega arith; inside = inl refl; outside = far }
     where
       -- what is over 1000 m is refused
-      far : isWithin d (millimetres edition 0x447A0001) ≡ false
+      far : is_within d (millimetres edition 0x447A0001) ≡ false
       far =
           test (eqb (millimetres edition 0x447A0001).refusal 0)
           (λ y.
-          let m = ((millimetres-0 edition 0x447A0001).0 (eqb-true (millimetres edition 0x447A0001).refusal 0 y)).2 in
-          both_ways _ (limit-bits 0x447A0001) (le-ltb (1000 * 2 ^ 150) (magnitude 0x447A0001) m))
+          let m = ((millimetres_0 edition 0x447A0001).0 (eqb-true (millimetres edition 0x447A0001).refusal 0 y)).2 in
+          both_ways _ (limit_bits 0x447A0001) (le-ltb (1000 * 2 ^ 150) (magnitude 0x447A0001) m))
           (λ n. rw n refl)
 
-  pub narrowed-up : (low high middle : ℕ) → low < middle → middle < high → Narrowed low high → Within middle → Narrowed middle high
-  narrowed-up low high middle l m n w = record { apart = m; small = n.small; inside = inr w; outside = n.outside }
+  pub narrowed_up : (low high middle : ℕ) → low < middle → middle < high → Narrowed low high → Within middle → Narrowed middle high
+  narrowed_up low high middle l m n w = record { apart = m; small = n.small; inside = inr w; outside = n.outside }
 
-  pub narrowed-down : (low high middle : ℕ) → low < middle → middle < high → Narrowed low high
-      → isWithin d (millimetres edition middle) ≡ false → Narrowed low middle
-  narrowed-down low high middle l m n f =
+  pub narrowed_down : (low high middle : ℕ) → low < middle → middle < high → Narrowed low high
+      → is_within d (millimetres edition middle) ≡ false → Narrowed low middle
+  narrowed_down low high middle l m n f =
       let s = n.small in record { apart = l; small = omega arith; inside = n.inside; outside = f }
 
   -- at its end
-  pub narrowed-end : (low high : ℕ) → high ≤ low + 1 → Narrowed low high → Greatest edition d low
-  narrowed-end low high l n = record {
+  pub narrowed_end : (low high : ℕ) → high ≤ low + 1 → Narrowed low high → Greatest edition d low
+  narrowed_end low high l n = record {
     small = let a = n.apart in let s = n.small in omega arith;
     exactly = λ ed bits. by_order ed bits (dec_lt low (bits % 2 ^ 31));
   }
     where
-      by_order : Edition edition → (bits : ℕ) → Dec (low < bits % 2 ^ 31) → isWithin d (millimetres edition bits) ≡ leb (bits % 2 ^ 31) low
+      by_order : Edition edition → (bits : ℕ) → Dec (low < bits % 2 ^ 31) → is_within d (millimetres edition bits) ≡ leb (bits % 2 ^ 31) low
       by_order ed bits (yes g) =
           let s = n.small in
           rw (lt-leb (bits % 2 ^ 31) low g)
-          (test (isWithin d (millimetres edition bits)) (λ t. both_ways _ (falls high bits (omega arith) t) n.outside) (λ f. f))
+          (test (is_within d (millimetres edition bits)) (λ t. both_ways _ (falls high bits (omega arith) t) n.outside) (λ f. f))
       by_order ed bits (no g) =
           let s = n.small in let a = n.apart in
           rw (le-leb (bits % 2 ^ 31) low (omega arith))
@@ -144,27 +144,27 @@ module _ (edition d : ℕ) where
 
   module _ (q : Quantity) (e : q ≡ millimetres edition 0) where
     -- an edition that there is refuses no float 0, any other every float
-    nought-sure : q.refusal ≡ 0 → Edition edition
-    nought-sure h = ((millimetres-0 edition 0).0 (rw e at h)).0
+    nought_sure : q.refusal ≡ 0 → Edition edition
+    nought_sure h = ((millimetres_0 edition 0).0 (rw e at h)).0
 
-    pub bound-no-edition : (q.refusal ≡ 0 → ⊥) → Bounds edition d (record { refusal = q.refusal; limit = 0 })
-    bound-no-edition n =
-        let small = within-limit 0 (omega arith) in
-        let unsure : Edition edition → ⊥ = λ ed. n (rw e ((millimetres-0 edition 0).1 (ed, (λ x. omega arith), small))) in
-        let told : q.refusal ≡ 32 = rw e ((millimetres-32 edition 0).1 unsure) in
-        record { refuses = rw (told, (no-edition edition).1 unsure); tells = λ z. absurd (n z); zero = λ z. refl }
+    pub bound_no_edition : (q.refusal ≡ 0 → ⊥) → Bounds edition d (record { refusal = q.refusal; limit = 0 })
+    bound_no_edition n =
+        let small = within_limit 0 (omega arith) in
+        let unsure : Edition edition → ⊥ = λ ed. n (rw e ((millimetres_0 edition 0).1 (ed, (λ x. omega arith), small))) in
+        let told : q.refusal ≡ 32 = rw e ((millimetres_32 edition 0).1 unsure) in
+        record { refuses = rw (told, (no_edition edition).1 unsure); tells = λ z. absurd (n z); zero = λ z. refl }
 
-    pub bound-too-distant : q.refusal ≡ 0 → maxDistance < d → Bounds edition d (record { refusal = 33; limit = 0 })
-    bound-too-distant h l = record {
-      refuses = rw ((edition-exactly edition).1 (nought-sure h), lt-ltb maxDistance d l);
+    pub bound_too_distant : q.refusal ≡ 0 → max_distance < d → Bounds edition d (record { refusal = 33; limit = 0 })
+    bound_too_distant h l = record {
+      refuses = rw ((edition_exactly edition).1 (nought_sure h), lt-ltb max_distance d l);
       tells = λ z. absurd (omega arith);
       zero = λ z. refl;
     }
 
-    pub bound-found : (bits : ℕ) → q.refusal ≡ 0 → d ≤ maxDistance → Greatest edition d bits
+    pub bound_found : (bits : ℕ) → q.refusal ≡ 0 → d ≤ max_distance → Greatest edition d bits
         → Bounds edition d (record { refusal = 0; limit = 2 * bits + 1 })
-    bound-found bits h l g = record {
-      refuses = rw ((edition-exactly edition).1 (nought-sure h), le-ltb maxDistance d l);
-      tells = λ z b. g.exactly (nought-sure h) b ∙ sign-last-most b bits;
+    bound_found bits h l g = record {
+      refuses = rw ((edition_exactly edition).1 (nought_sure h), le-ltb max_distance d l);
+      tells = λ z b. g.exactly (nought_sure h) b ∙ sign_last_most b bits;
       zero = λ z. absurd (z refl);
     }

@@ -1,7 +1,7 @@
 // The bound of a distance: which floats in metres are within it, by their bits alone (paper 02, (vi)).
 ghost use Rattle.std.specs.Prelude.{◌≡◌, ◌^◌, ◌<◌};
 ghost use Rattle.units.specs.Units.{millimetres};
-ghost use Rattle.coordinate_bounds.specs.Bounds.{isWithin, signLast, Bounds, Greatest};
+ghost use Rattle.coordinate_bounds.specs.Bounds.{is_within, sign_last, Bounds, Greatest};
 
 use units::{LIMIT_BITS, SIGN};
 
@@ -20,7 +20,7 @@ pub struct Bound {
 // Whether the float with these bits and no sign is within the distance.
 fn is_within(edition: u32, distance: u32, bits: u32) -> bool
     requires { bits < 2 ^ 31 }
-    ensures { result ≡ isWithin distance (millimetres edition bits) }
+    ensures { result ≡ is_within distance (millimetres edition bits) }
 {
     let q = units::coordinate_to_millimetres(edition, bits);
     if q.refusal != 0 {
@@ -50,7 +50,7 @@ fn greatest(edition: u32, distance: u32) -> u32
 // A float's bits turned left by one, so that the sign is last: they rise with the magnitude, whatever the sign. The processor turns them in
 // one step, and they are read in one; with the sign masked out it would join them byte by byte.
 pub fn sign_last(bits: u32) -> u32
-    ensures { result ≡ signLast bits }
+    ensures { result ≡ sign_last bits }
 {
     2 * (bits % SIGN) + bits / SIGN
 }

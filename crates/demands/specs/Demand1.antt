@@ -5,35 +5,35 @@
 -- entry whose promise is the definition that it is said of. What writers refuse stands in Writing.antt, what the requests add in
 -- Requests.antt.
 use Rattle.std.specs.Prelude.{Bool, ◌≡◌, List, ℕ, ◌+◌, ◌*◌, ◌^◌, ◌<◌, ◌≤◌, length}
-use Rattle.digits.specs.Bytes.{isCharacter}
+use Rattle.digits.specs.Bytes.{is_character}
 use Rattle.form.specs.declared.JudgementNumbers.{JudgementNumbers}
-use Rattle.reading.specs.Answers.{refused, roomIn}
+use Rattle.reading.specs.Answers.{refused, room_in}
 use Rattle.reading.specs.declared.Answer.{Answer}
 use Rattle.units.specs.Float.{exponent, magnitude}
-use Rattle.units.specs.Units.{decibels, centidegrees, Edition, noMillimetres, accuracyMillimetres, millimetres}
+use Rattle.units.specs.Units.{decibels, centidegrees, Edition, no_millimetres, accuracy_millimetres, millimetres}
 use Rattle.units.specs.Units as numbers
 use Rattle.units.specs.declared.Accuracy.{Accuracy}
 use Rattle.units.specs.declared.Quantity.{Quantity}
 use Rattle.sirad.specs.Table.{TableFrame}
-use Rattle.sirad_fields.specs.Fields.{noData, readData, noTargets, readTargets, noStatus, readStatus, noError, readError}
+use Rattle.sirad_fields.specs.Fields.{no_data, read_data, no_targets, read_targets, no_status, read_status, no_error, read_error}
 use Rattle.sirad_fields.specs.declared.DataFrame.{DataFrame}
 use Rattle.sirad_fields.specs.declared.TargetFrame.{TargetFrame}
 use Rattle.sirad_fields.specs.declared.StatusFrame.{StatusFrame}
 use Rattle.sirad_fields.specs.declared.ErrorFrame.{ErrorFrame}
-use Rattle.packet.specs.Walk.{objectsOf, recordsOf}
-use Rattle.packet.specs.Fields.{no_header, headerOf, noRecord, recordOf, noStep, step_of, noPoints, points_of, noPoint, point_of}
+use Rattle.packet.specs.Walk.{objects_of, records_of}
+use Rattle.packet.specs.Fields.{no_header, header_of, no_record, record_of, no_step, step_of, no_points, points_of, no_point, point_of}
 use Rattle.packet.specs.Refusals.{PacketOf, RecordStarts, HasPoints, PointRefused}
 use Rattle.packet.specs.declared.PacketHeader.{PacketHeader}
 use Rattle.packet.specs.declared.PacketRecord.{PacketRecord}
 use Rattle.packet.specs.declared.PacketStep.{PacketStep}
 use Rattle.packet.specs.declared.PacketPoints.{PacketPoints}
 use Rattle.packet.specs.declared.PacketPoint.{PacketPoint}
-use Rattle.demorad.specs.Reading.{refusedCommand, readCommand}
+use Rattle.demorad.specs.Reading.{refused_command, read_command}
 use Rattle.demorad.specs.Refusals.{Unreadable, First}
 use Rattle.demorad.specs.declared.Command.{Command}
-use Rattle.capture.specs.Dialects.{dialectOf}
-use Rattle.capture.specs.Entries.{maxBytes, verdict, verdictNumbers, readAnswer, readLeaves}
-use Rattle.capture.specs.Lines.{emptyPart, partOf}
+use Rattle.capture.specs.Dialects.{dialect_of}
+use Rattle.capture.specs.Entries.{max_bytes, verdict, verdict_numbers, read_answer, read_leaves}
+use Rattle.capture.specs.Lines.{empty_part, part_of}
 use Rattle.capture.specs.declared.Verdict.TheVariants.{Refused}
 use Rattle.demands.specs.Words.{none, ◌when◌else◌, ◌unless◌else◌, Refuses}
 
@@ -43,28 +43,28 @@ use Rattle.demands.specs.Words.{none, ◌when◌else◌, ◌unless◌else◌, Re
 abbrev pub JudgementRefuses : Type 0
 JudgementRefuses =
     (dialect : ℕ) (bs : List ℕ) (at : ℕ)
-    → Refuses (1 unless (dialect < 3) else 3 when (maxBytes < length bs) else 2 when (length bs < at) else none)
-    (λ (n : ℕ). verdictNumbers (Refused n)) (λ (a : JudgementNumbers). a.refusal) (verdictNumbers (verdict (dialectOf dialect) bs at))
+    → Refuses (1 unless (dialect < 3) else 3 when (max_bytes < length bs) else 2 when (length bs < at) else none)
+    (λ (n : ℕ). verdict_numbers (Refused n)) (λ (a : JudgementNumbers). a.refusal) (verdict_numbers (verdict (dialect_of dialect) bs at))
 
 -- "readings 1, 3" (`capture_read::read_capture`, `readings::vq_open_reading`, `readings::vq_closed_reading`)
 abbrev pub ReadingRefuses : Type 0
 ReadingRefuses =
     (dialect : ℕ) (closed : Bool) (bs : List ℕ) (room : ℕ)
-    → Refuses (1 unless (dialect < 3) else 3 when (maxBytes < length bs) else none)
-    refused (λ (a : Answer). a.refusal) (readAnswer (dialectOf dialect) closed bs room)
+    → Refuses (1 unless (dialect < 3) else 3 when (max_bytes < length bs) else none)
+    refused (λ (a : Answer). a.refusal) (read_answer (dialect_of dialect) closed bs room)
 
 -- a refused reading changes no number of the table
 abbrev pub RefusedReadingChangesNothing : Type 0
 RefusedReadingChangesNothing =
-    (dialect : ℕ) (closed : Bool) (bs table : List ℕ) → ((readAnswer (dialectOf dialect) closed bs (roomIn table)).refusal ≡ 0 → ⊥)
-    → readLeaves (dialectOf dialect) closed bs table ≡ table
+    (dialect : ℕ) (closed : Bool) (bs table : List ℕ) → ((read_answer (dialect_of dialect) closed bs (room_in table)).refusal ≡ 0 → ⊥)
+    → read_leaves (dialect_of dialect) closed bs table ≡ table
 
 -- "It is also empty for a dialect or a line (either one) that 1 or 3 refuses" (`capture_lines::choose_part`, `capture_lines::choose_line`)
 abbrev pub RefusedLineIsEmpty : Type 0
 RefusedLineIsEmpty =
     (dialect : ℕ) (main standby : List ℕ) (closed : Bool) (room : ℕ)
-    → (((readAnswer (dialectOf dialect) closed main room).refusal ≡ 0) × ((readAnswer (dialectOf dialect) closed standby room).refusal ≡ 0)
-    → ⊥) → partOf (dialectOf dialect) main standby ≡ emptyPart
+    → (((read_answer (dialect_of dialect) closed main room).refusal ≡ 0) × ((read_answer (dialect_of dialect) closed standby room).refusal ≡ 0)
+    → ⊥) → part_of (dialect_of dialect) main standby ≡ empty_part
 
 -- -- Fields of SiRad frames: "5 slice is not exactly one whole frame of the wanted kind", and for U frames 32 (paper 02, (iv))
 
@@ -72,24 +72,24 @@ RefusedLineIsEmpty =
 abbrev pub DataReaderRefuses : Type 0
 DataReaderRefuses =
     (bs : List ℕ)
-    → Refuses (5 unless ((kind : ℕ) × (kind ≤ 3) × TableFrame kind bs) else none) noData (λ (a : DataFrame). a.refusal) (readData bs)
+    → Refuses (5 unless ((kind : ℕ) × (kind ≤ 3) × TableFrame kind bs) else none) no_data (λ (a : DataFrame). a.refusal) (read_data bs)
 
 -- `sirad_read_targets::read_targets`
 abbrev pub TargetsReaderRefuses : Type 0
 TargetsReaderRefuses =
-    (bs : List ℕ) → Refuses (5 unless (TableFrame 4 bs) else none) noTargets (λ (a : TargetFrame). a.refusal) (readTargets bs)
+    (bs : List ℕ) → Refuses (5 unless (TableFrame 4 bs) else none) no_targets (λ (a : TargetFrame). a.refusal) (read_targets bs)
 
 -- `sirad_read::read_status`
 abbrev pub StatusReaderRefuses : Type 0
 StatusReaderRefuses =
     (edition : ℕ) (bs : List ℕ)
     → Refuses (5 unless (TableFrame 5 bs) else 32 unless (Edition edition) else none)
-    noStatus (λ (a : StatusFrame). a.refusal) (readStatus edition bs)
+    no_status (λ (a : StatusFrame). a.refusal) (read_status edition bs)
 
 -- `sirad_read::read_error`
 abbrev pub ErrorReaderRefuses : Type 0
 ErrorReaderRefuses =
-    (bs : List ℕ) → Refuses (5 unless (TableFrame 6 bs) else none) noError (λ (a : ErrorFrame). a.refusal) (readError bs)
+    (bs : List ℕ) → Refuses (5 unless (TableFrame 6 bs) else none) no_error (λ (a : ErrorFrame). a.refusal) (read_error bs)
 
 -- -- Fields of packets: "5, 7, 6, then for a point 30 or 31 of its first coordinate that has one"; 32 behind 6 (paper 02, (iv)); of the kind
 -- named, "any but 16 and 17: 5" (paper 02, (i))
@@ -98,27 +98,27 @@ ErrorReaderRefuses =
 abbrev pub HeaderRefuses : Type 0
 HeaderRefuses =
     (kind : ℕ) (bs : List ℕ)
-    → Refuses (5 unless (PacketOf kind bs) else none) no_header (λ (a : PacketHeader). a.refusal) (headerOf kind bs)
+    → Refuses (5 unless (PacketOf kind bs) else none) no_header (λ (a : PacketHeader). a.refusal) (header_of kind bs)
 
 -- `packet_fields::record`, `packet_parts::show`
 abbrev pub RecordRefuses : Type 0
 RecordRefuses =
     (kind : ℕ) (bs : List ℕ) (j : ℕ)
-    → Refuses (5 unless (PacketOf kind bs) else 6 unless (j < recordsOf bs) else none)
-    noRecord (λ (a : PacketRecord). a.refusal) (recordOf kind bs j)
+    → Refuses (5 unless (PacketOf kind bs) else 6 unless (j < records_of bs) else none)
+    no_record (λ (a : PacketRecord). a.refusal) (record_of kind bs j)
 
 -- "else it answers 5 or 6 and the place stays" (`packet_fields::step`, `packet_reader::step`)
 abbrev pub StepRefuses : Type 0
 StepRefuses =
     (kind : ℕ) (bs : List ℕ) (at : ℕ)
     → Refuses (5 unless (PacketOf kind bs) else 6 unless (RecordStarts bs at) else none)
-    (noStep at) (λ (a : PacketStep). a.refusal) (step_of kind bs at)
+    (no_step at) (λ (a : PacketStep). a.refusal) (step_of kind bs at)
 
 -- `packet_points::points`
 abbrev pub PointsRefuse : Type 0
 PointsRefuse =
     (bs : List ℕ)
-    → Refuses (5 unless (PacketOf 16 bs) else 7 unless (HasPoints bs) else none) noPoints (λ (a : PacketPoints). a.refusal) (points_of bs)
+    → Refuses (5 unless (PacketOf 16 bs) else 7 unless (HasPoints bs) else none) no_points (λ (a : PacketPoints). a.refusal) (points_of bs)
 
 -- `packet_points::point`
 abbrev pub PointRefuses : Type 0
@@ -126,18 +126,18 @@ PointRefuses =
     (edition : ℕ) (bs : List ℕ) (i : ℕ)
     → Refuses (5 unless (PacketOf 16 bs)
     else 7 unless (HasPoints bs)
-    else 6 unless (i < objectsOf bs)
+    else 6 unless (i < objects_of bs)
     else 32 unless (Edition edition)
     else 30 when PointRefused edition bs i 30
     else 31 when PointRefused edition bs i 31
-    else none) noPoint (λ (a : PacketPoint). a.refusal) (point_of edition bs i)
+    else none) no_point (λ (a : PacketPoint). a.refusal) (point_of edition bs i)
 
 -- -- Commands: "command reading 40 to 46 rising" (`demorad_read::read_command`)
 
 -- the first of 40 to 46 whose condition holds, and zeros beside it
 abbrev pub CommandReaderRefuses : Type 0
 CommandReaderRefuses =
-    (bs : List ℕ) → Refuses (First (Unreadable bs)) refusedCommand (λ (a : Command). a.refusal) (readCommand bs)
+    (bs : List ℕ) → Refuses (First (Unreadable bs)) refused_command (λ (a : Command). a.refusal) (read_command bs)
 
 -- -- Numbers: 50; 32, before 30 and 31 (paper 02, (iv))
 
@@ -155,7 +155,7 @@ PhaseRefuses =
 abbrev pub AccuracyRefuses : Type 0
 AccuracyRefuses =
     (edition tenths : ℕ)
-    → Refuses (32 unless (Edition edition) else none) noMillimetres (λ (a : Accuracy). a.refusal) (accuracyMillimetres edition tenths)
+    → Refuses (32 unless (Edition edition) else none) no_millimetres (λ (a : Accuracy). a.refusal) (accuracy_millimetres edition tenths)
 
 -- "30, 31 infinite or no number; magnitude over 1000 m": the exponent's bits are all ones; the exact value is magnitude / 2 ^ 150 metres
 -- (`units::coordinate_to_millimetres`, `gateway::vq_millimetres`)

@@ -4,8 +4,8 @@ use Rattle.form.specs.Form.{Stands}
 use Rattle.reading.specs.Leftmost.{Standing}
 use Rattle.reading.specs.Reading.{Reading, reading}
 use Rattle.mmwave.specs.Paper.{EndsInField}
-use Rattle.mmwave.specs.Dialects.{sentencesOf}
-use Rattle.capture.specs.Dialects.{form_of, judgeOf}
+use Rattle.mmwave.specs.Dialects.{sentences_of}
+use Rattle.capture.specs.Dialects.{form_of, judge_of}
 use Rattle.capture.specs.Entries.{verdict}
 use Rattle.capture.specs.declared.Asked.TheVariants.{Known}
 use Rattle.capture.specs.declared.Dialect.{Dialect}
@@ -34,7 +34,7 @@ abbrev pub ◌unless◌else◌ : ℕ → Type 0 → Said → Said
 -- "A refusal returns its number, every other number 0": an answer whose number is as said, and that is zeros beside it unless it is 0
 pub record Refuses {A : Type 0} (said : Said) (zeros : ℕ → A) (number : A → ℕ) (answer : A) : Type 0 where
   pub in_order : said (number answer)
-  pub every-other-0 : (number answer ≡ 0 → ⊥) → answer ≡ zeros (number answer)
+  pub every_other_0 : (number answer ≡ 0 → ⊥) → answer ≡ zeros (number answer)
 
 -- -- Places (paper 01, "Judging a place" and "Two readings")
 
@@ -43,18 +43,18 @@ abbrev pub StandsIn : Dialect → List ℕ → Standing
 StandsIn d bs at kind size = Stands (form_of d) kind size (drop at bs)
 
 -- what the judgement says at a place
-abbrev pub judgedAt : Dialect → List ℕ → ℕ → Verdict
-judgedAt d bs at = verdict (Known d) bs at
+abbrev pub judged_at : Dialect → List ℕ → ℕ → Verdict
+judged_at d bs at = verdict (Known d) bs at
 
 -- the open reading, with room for so many rows
-abbrev pub openOf : Dialect → ℕ → List ℕ → Reading
-openOf d room bs = reading (judgeOf d) false room bs
+abbrev pub open_of : Dialect → ℕ → List ℕ → Reading
+open_of d room bs = reading (judge_of d) false room bs
 
 -- the closed reading, with room for so many rows
-abbrev pub closedOf : Dialect → ℕ → List ℕ → Reading
-closedOf d room bs = reading (judgeOf d) true room bs
+abbrev pub closed_of : Dialect → ℕ → List ℕ → Reading
+closed_of d room bs = reading (judge_of d) true room bs
 
 -- the bytes "end inside" a four-byte field, of which SiRad has none
 abbrev pub EndsInsideField : Dialect → List ℕ → Type 0
 EndsInsideField Sirad bs = ⊥
-EndsInsideField (Packets d) bs = EndsInField (sentencesOf d) bs
+EndsInsideField (Packets d) bs = EndsInField (sentences_of d) bs

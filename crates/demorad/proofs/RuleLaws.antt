@@ -12,7 +12,7 @@ use lib.Dec.{eqb}
 use lib.ListN.{get_or, take}
 use lib.Seq.{get_or-take}
 use Rattle.digits.proofs.Choices.{test, both_ways}
-use Rattle.demorad.specs.Rules.{unlisted, rules, lookup, ruleOf, judged, legality}
+use Rattle.demorad.specs.Rules.{unlisted, rules, lookup, rule_of, judged, legality}
 use Rattle.demorad.specs.Refusals.{Absent, Listed}
 use Rattle.demorad.specs.declared.Rule.{Rule}
 
@@ -34,9 +34,9 @@ every P code [] u h = u
 every P code (row ∷ rows) u (h, hs) = chosen P (eqb code row.0) row.1 (lookup code rows) h (every P code rows u hs)
 
 -- a selection is one of the first two payload words
-pub index-small : (code : ℕ) (rule : Rule) → rule ≡ ruleOf code → rule.index < 2
-unfolding ruleOf Every
-index-small code rule e =
+pub index_small : (code : ℕ) (rule : Rule) → rule ≡ rule_of code → rule.index < 2
+unfolding rule_of Every
+index_small code rule e =
     rw e
     (every (λ r. r.index < 2) code rules (omega arith)
     (omega arith, (omega arith, (omega arith, (omega arith, (omega arith, (omega arith, (omega arith, tt))))))))
@@ -46,24 +46,24 @@ unselected : {A : Type 0} → false ≡ true → A
 unselected s = both_ways false s refl
 
 -- a selection is among the fewest words of its code
-pub index-counted : (code : ℕ) → (ruleOf code).selects ≡ true → (ruleOf code).index < (ruleOf code).least
-unfolding ruleOf Every
-index-counted code =
+pub index_counted : (code : ℕ) → (rule_of code).selects ≡ true → (rule_of code).index < (rule_of code).least
+unfolding rule_of Every
+index_counted code =
     every (λ r. r.selects ≡ true → r.index < r.least) code rules unselected
     (unselected, (λ s. omega arith, (λ s. omega arith, (unselected, (unselected, (unselected, (λ s. omega arith, tt)))))))
 
 -- no code has more than 30 payload words
-pub most-small : (code : ℕ) → (ruleOf code).most ≤ 30
-unfolding ruleOf Every
-most-small code =
+pub most_small : (code : ℕ) → (rule_of code).most ≤ 30
+unfolding rule_of Every
+most_small code =
     every (λ r. r.most ≤ 30) code rules (omega arith)
     (omega arith, (omega arith, (omega arith, (omega arith, (omega arith, (omega arith, (omega arith, tt)))))))
 
 -- a known code has its row
-pub known-listed : (code : ℕ) (rows : List (ℕ × Rule)) → (lookup code rows).known ≡ true → Listed code (lookup code rows) rows
+pub known_listed : (code : ℕ) (rows : List (ℕ × Rule)) → (lookup code rows).known ≡ true → Listed code (lookup code rows) rows
 unfolding Listed
-known-listed code [] h = both_ways false h refl
-known-listed code (row ∷ rows) h = go (eqb code row.0) refl h (λ k. known-listed code rows k)
+known_listed code [] h = both_ways false h refl
+known_listed code (row ∷ rows) h = go (eqb code row.0) refl h (λ k. known_listed code rows k)
   where
     go : (t : Bool) → eqb code row.0 ≡ t → (cond t row.1 (lookup code rows)).known ≡ true
         → ((lookup code rows).known ≡ true → Listed code (lookup code rows) rows)
@@ -72,29 +72,29 @@ known-listed code (row ∷ rows) h = go (eqb code row.0) refl h (λ k. known-lis
     go false e k more = inr (more k)
 
 -- a row of the table is the rule of its code
-pub listed-rule : (code : ℕ) (rule : Rule) → Listed code rule rules → (rule ≡ ruleOf code) × (rule.known ≡ true) × (code < 65536)
-unfolding Listed ruleOf
-listed-rule code rule (inl (e, q)) = (rw e q, rw q refl, omega arith)
-listed-rule code rule (inr (inl (e, q))) = (rw e q, rw q refl, omega arith)
-listed-rule code rule (inr (inr (inl (e, q)))) = (rw e q, rw q refl, omega arith)
-listed-rule code rule (inr (inr (inr (inl (e, q))))) = (rw e q, rw q refl, omega arith)
-listed-rule code rule (inr (inr (inr (inr (inl (e, q)))))) = (rw e q, rw q refl, omega arith)
-listed-rule code rule (inr (inr (inr (inr (inr (inl (e, q))))))) = (rw e q, rw q refl, omega arith)
-listed-rule code rule (inr (inr (inr (inr (inr (inr (inl (e, q)))))))) = (rw e q, rw q refl, omega arith)
-listed-rule code rule (inr (inr (inr (inr (inr (inr (inr z))))))) = absurd z
+pub listed_rule : (code : ℕ) (rule : Rule) → Listed code rule rules → (rule ≡ rule_of code) × (rule.known ≡ true) × (code < 65536)
+unfolding Listed rule_of
+listed_rule code rule (inl (e, q)) = (rw e q, rw q refl, omega arith)
+listed_rule code rule (inr (inl (e, q))) = (rw e q, rw q refl, omega arith)
+listed_rule code rule (inr (inr (inl (e, q)))) = (rw e q, rw q refl, omega arith)
+listed_rule code rule (inr (inr (inr (inl (e, q))))) = (rw e q, rw q refl, omega arith)
+listed_rule code rule (inr (inr (inr (inr (inl (e, q)))))) = (rw e q, rw q refl, omega arith)
+listed_rule code rule (inr (inr (inr (inr (inr (inl (e, q))))))) = (rw e q, rw q refl, omega arith)
+listed_rule code rule (inr (inr (inr (inr (inr (inr (inl (e, q)))))))) = (rw e q, rw q refl, omega arith)
+listed_rule code rule (inr (inr (inr (inr (inr (inr (inr z))))))) = absurd z
 
 -- a code in no row is unknown
-pub absent-unknown : (code : ℕ) (rows : List (ℕ × Rule)) → Absent code rows → lookup code rows ≡ unlisted
+pub absent_unknown : (code : ℕ) (rows : List (ℕ × Rule)) → Absent code rows → lookup code rows ≡ unlisted
 unfolding Absent
-absent-unknown code [] h = refl
-absent-unknown code (row ∷ rows) (h, hs) = rw (ne_eqb code row.0 h) (absent-unknown code rows hs)
+absent_unknown code [] h = refl
+absent_unknown code (row ∷ rows) (h, hs) = rw (ne_eqb code row.0 h) (absent_unknown code rows hs)
 
 -- an unknown code is in no row
-pub unknown-absent : (code : ℕ) (rows : List (ℕ × Rule)) → Every (λ c r. r.known ≡ true) rows → (lookup code rows).known ≡ false
+pub unknown_absent : (code : ℕ) (rows : List (ℕ × Rule)) → Every (λ c r. r.known ≡ true) rows → (lookup code rows).known ≡ false
     → Absent code rows
 unfolding Absent Every
-unknown-absent code [] k h = tt
-unknown-absent code (row ∷ rows) (k, ks) h = go (eqb code row.0) refl h (λ u. unknown-absent code rows ks u)
+unknown_absent code [] k h = tt
+unknown_absent code (row ∷ rows) (k, ks) h = go (eqb code row.0) refl h (λ u. unknown_absent code rows ks u)
   where
     go : (t : Bool) → eqb code row.0 ≡ t → (cond t row.1 (lookup code rows)).known ≡ false
         → ((lookup code rows).known ≡ false → Absent code rows) → (code ≡ row.0 → ⊥) × Absent code rows
@@ -107,9 +107,9 @@ unfolding Every
 all_known = (refl, (refl, (refl, (refl, (refl, (refl, (refl, tt)))))))
 
 -- a known code fits its 16 bits
-pub known_small : (code : ℕ) → (ruleOf code).known ≡ true → code < 65536
-unfolding ruleOf
-known_small code h = (listed-rule code (ruleOf code) (known-listed code rules h)).2
+pub known_small : (code : ℕ) → (rule_of code).known ≡ true → code < 65536
+unfolding rule_of
+known_small code h = (listed_rule code (rule_of code) (known_listed code rules h)).2
 
 -- -- The cases of a command's legality
 
@@ -129,101 +129,101 @@ module _ (rule : Rule) (count : ℕ) (words : List ℕ) where
         → Verdict 0
 
   -- 44: an unknown code
-  pub judged-unknown : rule.known ≡ false → ◌≡◌ {A = ℕ} 44 (judged rule count words)
-  judged-unknown k = rw k
+  pub judged_unknown : rule.known ≡ false → ◌≡◌ {A = ℕ} 44 (judged rule count words)
+  judged_unknown k = rw k
 
   -- 45: fewer words than the rule has
-  pub judged-few : rule.known ≡ true → count < rule.least → ◌≡◌ {A = ℕ} 45 (judged rule count words)
-  judged-few k l = rw (k, lt-leb rule.least count l)
+  pub judged_few : rule.known ≡ true → count < rule.least → ◌≡◌ {A = ℕ} 45 (judged rule count words)
+  judged_few k l = rw (k, lt-leb rule.least count l)
 
   -- 45: more words than the rule has
-  pub judged-many : rule.known ≡ true → rule.most < count → ◌≡◌ {A = ℕ} 45 (judged rule count words)
-  judged-many k m = go (dec_le rule.least count)
+  pub judged_many : rule.known ≡ true → rule.most < count → ◌≡◌ {A = ℕ} 45 (judged rule count words)
+  judged_many k m = go (dec_le rule.least count)
     where
       go : Dec (rule.least ≤ count) → ◌≡◌ {A = ℕ} 45 (judged rule count words)
       go (yes l) = rw (k, le-leb rule.least count l, lt-leb count rule.most m)
       go (no l) = rw (k, lt-leb rule.least count (omega arith))
 
   -- 0: the count fits and there is no selection
-  pub judged-free : rule.known ≡ true → rule.least ≤ count → count ≤ rule.most → rule.selects ≡ false
+  pub judged_free : rule.known ≡ true → rule.least ≤ count → count ≤ rule.most → rule.selects ≡ false
       → ◌≡◌ {A = ℕ} 0 (judged rule count words)
-  judged-free k l m s = rw (k, le-leb rule.least count l, le-leb count rule.most m, s)
+  judged_free k l m s = rw (k, le-leb rule.least count l, le-leb count rule.most m, s)
 
   -- 46: the selection is above its highest value
-  pub judged-out : rule.known ≡ true → rule.least ≤ count → count ≤ rule.most → rule.selects ≡ true → rule.top < selected rule words
+  pub judged_out : rule.known ≡ true → rule.least ≤ count → count ≤ rule.most → rule.selects ≡ true → rule.top < selected rule words
       → ◌≡◌ {A = ℕ} 46 (judged rule count words)
-  judged-out k l m s o = rw (k, le-leb rule.least count l, le-leb count rule.most m, s, lt-ltb rule.top (selected rule words) o)
+  judged_out k l m s o = rw (k, le-leb rule.least count l, le-leb count rule.most m, s, lt-ltb rule.top (selected rule words) o)
 
   -- 0: count and selection fit
-  pub judged-in : rule.known ≡ true → rule.least ≤ count → count ≤ rule.most → rule.selects ≡ true → selected rule words ≤ rule.top
+  pub judged_in : rule.known ≡ true → rule.least ≤ count → count ≤ rule.most → rule.selects ≡ true → selected rule words ≤ rule.top
       → ◌≡◌ {A = ℕ} 0 (judged rule count words)
-  judged-in k l m s o = rw (k, le-leb rule.least count l, le-leb count rule.most m, s, le-ltb rule.top (selected rule words) o)
+  judged_in k l m s o = rw (k, le-leb rule.least count l, le-leb count rule.most m, s, le-ltb rule.top (selected rule words) o)
 
   -- every command has one
   pub verdict : Verdict (judged rule count words)
   verdict = known rule.known refl
     where
-      chosen-word : rule.known ≡ true → rule.least ≤ count → count ≤ rule.most → rule.selects ≡ true
+      chosen_word : rule.known ≡ true → rule.least ≤ count → count ≤ rule.most → rule.selects ≡ true
           → Dec (selected rule words ≤ rule.top) → Verdict (judged rule count words)
-      chosen-word k l m s (yes o) = subst Verdict (judged-in k l m s o) (fine k l m (λ t. o))
-      chosen-word k l m s (no o) = subst Verdict (judged-out k l m s (omega arith)) (out k l m s (omega arith))
+      chosen_word k l m s (yes o) = subst Verdict (judged_in k l m s o) (fine k l m (λ t. o))
+      chosen_word k l m s (no o) = subst Verdict (judged_out k l m s (omega arith)) (out k l m s (omega arith))
 
       counted : rule.known ≡ true → Dec (rule.least ≤ count) → Dec (count ≤ rule.most) → Verdict (judged rule count words)
-      counted k (no l) m = subst Verdict (judged-few k (omega arith)) (few k (omega arith))
-      counted k (yes l) (no m) = subst Verdict (judged-many k (omega arith)) (many k (omega arith))
+      counted k (no l) m = subst Verdict (judged_few k (omega arith)) (few k (omega arith))
+      counted k (yes l) (no m) = subst Verdict (judged_many k (omega arith)) (many k (omega arith))
       counted k (yes l) (yes m) =
           test rule.selects
-          (λ s. chosen-word k l m s (dec_le (selected rule words) rule.top))
-          (λ s. subst Verdict (judged-free k l m s) (fine k l m (λ t. both_ways rule.selects t s)))
+          (λ s. chosen_word k l m s (dec_le (selected rule words) rule.top))
+          (λ s. subst Verdict (judged_free k l m s) (fine k l m (λ t. both_ways rule.selects t s)))
 
       known : (t : Bool) → rule.known ≡ t → Verdict (judged rule count words)
-      known false k = subst Verdict (judged-unknown k) (unknown k)
+      known false k = subst Verdict (judged_unknown k) (unknown k)
       known true k = counted k (dec_le rule.least count) (dec_le count rule.most)
 
 -- the refusal by the rule that the code has at hand
-pub by-rule : (code count : ℕ) (words : List ℕ) (rule : Rule) (n : ℕ) → rule ≡ ruleOf code → n ≡ judged rule count words
+pub by_rule : (code count : ℕ) (words : List ℕ) (rule : Rule) (n : ℕ) → rule ≡ rule_of code → n ≡ judged rule count words
     → n ≡ legality code count words
 unfolding legality
-by-rule code count words rule n e h = h ∙ rw e
+by_rule code count words rule n e h = h ∙ rw e
 
 -- -- A legal command
 
 -- what a command that is not refused is
 pub record Legal (code count : ℕ) (words : List ℕ) : Type 0 where
-  pub known : (ruleOf code).known ≡ true
+  pub known : (rule_of code).known ≡ true
   pub small : code < 65536
-  pub least : (ruleOf code).least ≤ count
-  pub most : count ≤ (ruleOf code).most
+  pub least : (rule_of code).least ≤ count
+  pub most : count ≤ (rule_of code).most
   pub few : count ≤ 30
-  pub chosen : (ruleOf code).selects ≡ true → selected (ruleOf code) words ≤ (ruleOf code).top
+  pub chosen : (rule_of code).selects ≡ true → selected (rule_of code) words ≤ (rule_of code).top
 
 -- a command that is not refused is legal
-pub is-legal : (code count : ℕ) (words : List ℕ) → legality code count words ≡ 0 → Legal code count words
+pub is_legal : (code count : ℕ) (words : List ℕ) → legality code count words ≡ 0 → Legal code count words
 unfolding legality
-is-legal code count words h = go (verdict (ruleOf code) count words) h
+is_legal code count words h = go (verdict (rule_of code) count words) h
   where
-    go : {n : ℕ} → Verdict (ruleOf code) count words n → n ≡ 0 → Legal code count words
+    go : {n : ℕ} → Verdict (rule_of code) count words n → n ≡ 0 → Legal code count words
     go (unknown k) e = absurd (omega arith)
     go (few k l) e = absurd (omega arith)
     go (many k l) e = absurd (omega arith)
     go (out k l m s o) e = absurd (omega arith)
     go (fine k l m s) e =
-        let b = most-small code in
+        let b = most_small code in
         record { known = k; small = known_small code k; least = l; most = m; few = omega arith; chosen = s }
 
 -- a legal command is not refused
-pub legal-is : (code count : ℕ) (words : List ℕ) → Legal code count words → legality code count words ≡ 0
+pub legal_is : (code count : ℕ) (words : List ℕ) → Legal code count words → legality code count words ≡ 0
 unfolding legality
-legal-is code count words l =
-    test (ruleOf code).selects
-    (λ s. sym (judged-in (ruleOf code) count words l.known l.least l.most s (l.chosen s)))
-    (λ s. sym (judged-free (ruleOf code) count words l.known l.least l.most s))
+legal_is code count words l =
+    test (rule_of code).selects
+    (λ s. sym (judged_in (rule_of code) count words l.known l.least l.most s (l.chosen s)))
+    (λ s. sym (judged_free (rule_of code) count words l.known l.least l.most s))
 
 -- words behind the count do not matter
-pub legal-take : (code count : ℕ) (words : List ℕ) → legality code count words ≡ 0 → legality code count (take count words) ≡ 0
-legal-take code count words h =
-    let l = is-legal code count words h in
-    legal-is code count (take count words)
+pub legal_take : (code count : ℕ) (words : List ℕ) → legality code count words ≡ 0 → legality code count (take count words) ≡ 0
+legal_take code count words h =
+    let l = is_legal code count words h in
+    legal_is code count (take count words)
     (record {
       known = l.known;
       small = l.small;
@@ -231,7 +231,7 @@ legal-take code count words h =
       most = l.most;
       few = l.few;
       chosen = λ s.
-          let p = index-counted code s in
+          let p = index_counted code s in
           let q = l.least in
-          rw (get_or-take count words (ruleOf code).index 0 (omega arith)) (l.chosen s);
+          rw (get_or-take count words (rule_of code).index 0 (omega arith)) (l.chosen s);
     })

@@ -1,8 +1,8 @@
 -- The refusals once more, as conditions in paper 01's words, and what "the first whose condition holds" says.
 use Rattle.std.specs.Prelude.{◌≡◌, Bool, true, List, [], ◌∷◌, ◌⊎◌, ℕ, ◌*◌, ◌<◌, ◌≤◌, length, get_or}
-use Rattle.demorad.specs.Rules.{maxPayload, rules}
-use Rattle.demorad.specs.Image.{commandBytes}
-use Rattle.demorad.specs.Reading.{bits, headerOf, length_of, code_of, count_of, payloadOf}
+use Rattle.demorad.specs.Rules.{max_payload, rules}
+use Rattle.demorad.specs.Image.{command_bytes}
+use Rattle.demorad.specs.Reading.{bits, header_of, length_of, code_of, count_of, payload_of}
 use Rattle.demorad.specs.declared.Rule.{Rule}
 
 -- the code is in no row of the table
@@ -18,14 +18,14 @@ Listed code rule (row ∷ rows) = ((code ≡ row.0) × (rule ≡ row.1)) ⊎ Lis
 -- when a command is illegal, with the number (paper 01, "Refusal numbers")
 pub data Illegal (code count : ℕ) (words : List ℕ) : ℕ → Type 0 where
   -- unknown code
-  unknown-code : Absent code rules → Illegal code count words 44
+  unknown_code : Absent code rules → Illegal code count words 44
   -- payload count wrong
   too_few : (rule : Rule) → Listed code rule rules → count < rule.least → Illegal code count words 45
   too_many : (rule : Rule) → Listed code rule rules → rule.most < count → Illegal code count words 45
   -- payload count over 30
-  over-thirty : maxPayload < count → Illegal code count words 45
+  over_thirty : max_payload < count → Illegal code count words 45
   -- selection out of range
-  wrong-selection : (rule : Rule) → Listed code rule rules → rule.selects ≡ true → rule.top < get_or words rule.index 0
+  wrong_selection : (rule : Rule) → Listed code rule rules → rule.selects ≡ true → rule.top < get_or words rule.index 0
       → Illegal code count words 46
 
 -- when bytes are no command, with the number (paper 01, "Refusal numbers")
@@ -33,20 +33,20 @@ pub data Unreadable (bs : List ℕ) : ℕ → Type 0 where
   -- under 4 bytes
   too_short : length bs < 4 → Unreadable bs 40
   -- a rest bit set: one of the bits 21 to 30
-  rest-bit : (i : ℕ) → 21 ≤ i → i ≤ 30 → bits i 1 (headerOf bs) ≡ 1 → Unreadable bs 41
+  rest_bit : (i : ℕ) → 21 ≤ i → i ≤ 30 → bits i 1 (header_of bs) ≡ 1 → Unreadable bs 41
   -- length 0
-  no_length : length_of (headerOf bs) ≡ 0 → Unreadable bs 42
+  no_length : length_of (header_of bs) ≡ 0 → Unreadable bs 42
   -- byte count not four times the length
-  wrong_size : (length bs ≡ 4 * length_of (headerOf bs) → ⊥) → Unreadable bs 43
+  wrong_size : (length bs ≡ 4 * length_of (header_of bs) → ⊥) → Unreadable bs 43
   -- code, payload count or selection
-  illegal-read : {n : ℕ} → Illegal (code_of (headerOf bs)) (count_of bs) (payloadOf bs) n → Unreadable bs n
+  illegal_read : {n : ℕ} → Illegal (code_of (header_of bs)) (count_of bs) (payload_of bs) n → Unreadable bs n
 
 -- when a command cannot be written into the buffer, with the number (paper 01, "Refusal numbers")
 pub data Unwritable (rd : Bool) (code count : ℕ) (words out : List ℕ) : ℕ → Type 0 where
   -- code, payload count or selection
-  illegal-write : {n : ℕ} → Illegal code count words n → Unwritable rd code count words out n
+  illegal_write : {n : ℕ} → Illegal code count words n → Unwritable rd code count words out n
   -- output too short
-  no_room : length out < length (commandBytes rd code count words) → Unwritable rd code count words out 51
+  no_room : length out < length (command_bytes rd code count words) → Unwritable rd code count words out 51
 
 -- r is the first number whose condition holds, 0 exactly if none holds
 pub record First (condition : ℕ → Type 0) (r : ℕ) : Type 0 where

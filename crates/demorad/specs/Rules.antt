@@ -6,38 +6,38 @@ use Rattle.demorad.specs.declared.Rule.{Rule}
 -- -- The codes (document 001, table 6)
 
 -- enable test data (document 001, section 5.1)
-abbrev pub dspEnTstDat : ℕ
-dspEnTstDat = 0x6005
+abbrev pub dsp_en_tst_dat : ℕ
+dsp_en_tst_dat = 0x6005
 
 -- configuration (document 001, section 5.2)
-abbrev pub dspSetADICfg : ℕ
-dspSetADICfg = 0x6006
+abbrev pub dsp_set_adicfg : ℕ
+dsp_set_adicfg = 0x6006
 
 -- calibration data (document 001, section 5.3)
-abbrev pub dspWrCalDat : ℕ
-dspWrCalDat = 0x6007
+abbrev pub dsp_wr_cal_dat : ℕ
+dsp_wr_cal_dat = 0x6007
 
 -- board status (document 001, section 5.4)
-abbrev pub dspGetSts : ℕ
-dspGetSts = 0x6008
+abbrev pub dsp_get_sts : ℕ
+dsp_get_sts = 0x6008
 
 -- chirp data (document 001, section 5.5)
-abbrev pub dspGetChirp : ℕ
-dspGetChirp = 0x7003
+abbrev pub dsp_get_chirp : ℕ
+dsp_get_chirp = 0x7003
 
 -- version (document 001, section 5.6)
-abbrev pub getVersInf : ℕ
-getVersInf = 0x900E
+abbrev pub get_vers_inf : ℕ
+get_vers_inf = 0x900E
 
 -- a row of SPI data (document 001, section 5.7)
-abbrev pub dspSetSpi : ℕ
-dspSetSpi = 0x9017
+abbrev pub dsp_set_spi : ℕ
+dsp_set_spi = 0x9017
 
 -- -- Their rules
 
 -- the most payload words: a length of five bits, the header counted (paper 01, "DemoRad": lengths 1 to 31)
-abbrev pub maxPayload : ℕ
-maxPayload = 30
+abbrev pub max_payload : ℕ
+max_payload = 30
 
 -- from least to most payload words of any value
 abbrev pub counts : ℕ → ℕ → Rule
@@ -49,18 +49,18 @@ selects least most index top = record { known = true; least = least; most = most
 
 -- a code that document 001 does not list
 abbrev pub unlisted : Rule
-unlisted = record { known = false; least = 0; most = maxPayload; selects = false; index = 0; top = 0 }
+unlisted = record { known = false; least = 0; most = max_payload; selects = false; index = 0; top = 0 }
 
 -- the rules (paper 01, "DemoRad"; document 001, tables 7 to 16)
 abbrev pub rules : List (ℕ × Rule)
 rules =
-    (dspEnTstDat, counts 1 1)
-    ∷ (dspSetADICfg, selects 1 1 0 4)
-    ∷ (dspWrCalDat, selects 1 maxPayload 0 3)
-    ∷ (dspGetSts, counts 0 maxPayload)
-    ∷ (dspGetChirp, counts 2 2)
-    ∷ (getVersInf, counts 0 maxPayload)
-    ∷ (dspSetSpi, selects 2 maxPayload 1 3)
+    (dsp_en_tst_dat, counts 1 1)
+    ∷ (dsp_set_adicfg, selects 1 1 0 4)
+    ∷ (dsp_wr_cal_dat, selects 1 max_payload 0 3)
+    ∷ (dsp_get_sts, counts 0 max_payload)
+    ∷ (dsp_get_chirp, counts 2 2)
+    ∷ (get_vers_inf, counts 0 max_payload)
+    ∷ (dsp_set_spi, selects 2 max_payload 1 3)
     ∷ []
 
 -- the rule that the table has for a code
@@ -69,8 +69,8 @@ lookup code [] = unlisted
 lookup code (row ∷ rows) = cond (eqb code row.0) row.1 (lookup code rows)
 
 -- the rule of a code
-unfoldable pub ruleOf : ℕ → Rule
-ruleOf code = lookup code rules
+unfoldable pub rule_of : ℕ → Rule
+rule_of code = lookup code rules
 
 -- -- Legality
 
@@ -83,4 +83,4 @@ judged rule count words =
 
 -- the refusal of a command by its code, payload count and words; 0 for none
 unfoldable pub legality : ℕ → ℕ → List ℕ → ℕ
-legality code count words = judged (ruleOf code) count words
+legality code count words = judged (rule_of code) count words

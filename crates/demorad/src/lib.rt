@@ -2,7 +2,7 @@
 // `demorad_read` reads them, `demorad_write` writes them.
 
 ghost use Rattle.std.specs.Prelude.{◌≡◌, length};
-ghost use Rattle.demorad.specs.Rules.{counts, selects, unlisted, ruleOf, legality, maxPayload};
+ghost use Rattle.demorad.specs.Rules.{counts, selects, unlisted, rule_of, legality, max_payload};
 
 // The command codes (document 001, table 6).
 const DSP_EN_TST_DAT: u32 = 0x6005;
@@ -97,7 +97,7 @@ fn unknown() -> Rule
 }
 
 fn rule_of(code: u32) -> Rule
-    ensures { result ≡ ruleOf code }
+    ensures { result ≡ rule_of code }
 {
     match code {
         DSP_EN_TST_DAT => counted(1, 1),
@@ -115,7 +115,7 @@ fn rule_of(code: u32) -> Rule
 // The array's length is promised for callers that only pass it on.
 pub fn command_refusal(code: u32, count: u32, words: [u32; 30]) -> u32
     ensures value { result ≡ legality code count words }
-    ensures thirty { length words ≡ maxPayload }
+    ensures thirty { length words ≡ max_payload }
 {
     let rule = rule_of(code);
     let known = rule.known;

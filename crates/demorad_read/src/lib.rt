@@ -1,9 +1,9 @@
 // Reads DemoRad commands (paper 01, "DemoRad"; document 001, section 2.1.1).
 
 ghost use Rattle.std.specs.Prelude.{◌≡◌, ◌+◌, ◌*◌, ◌≤◌, length, drop};
-ghost use Rattle.demorad.specs.Rules.{maxPayload};
-ghost use Rattle.demorad.specs.Reading.{rdOf, rest_of, length_of, code_of};
-ghost use Rattle.demorad.specs.Reading.{framing, words_of, padded, refusedCommand, readCommand};
+ghost use Rattle.demorad.specs.Rules.{max_payload};
+ghost use Rattle.demorad.specs.Reading.{rd_of, rest_of, length_of, code_of};
+ghost use Rattle.demorad.specs.Reading.{framing, words_of, padded, refused_command, read_command};
 
 use demorad::Command;
 
@@ -38,7 +38,7 @@ fn code_of(header: u32) -> u32
 }
 
 fn rd_of(header: u32) -> bool
-    ensures { result ≡ rdOf header }
+    ensures { result ≡ rd_of header }
 {
     header / demorad::RD % 2 == 1
 }
@@ -68,7 +68,7 @@ fn framing_of(bytes: &[u8]) -> u32
 
 // The payload words, the unused ones 0.
 fn payload(bytes: &[u8], count: usize) -> [u32; 30]
-    requires { (count ≤ maxPayload) × (4 + 4 * count ≤ length bytes.now) }
+    requires { (count ≤ max_payload) × (4 + 4 * count ≤ length bytes.now) }
     ensures { result ≡ padded (words_of count (drop 4 bytes.now)) }
 {
     let mut words = [0u32; 30];
@@ -83,7 +83,7 @@ fn payload(bytes: &[u8], count: usize) -> [u32; 30]
 }
 
 fn refused(refusal: u32) -> Command
-    ensures { result ≡ refusedCommand refusal }
+    ensures { result ≡ refused_command refusal }
 {
     Command {
         refusal,
@@ -96,7 +96,7 @@ fn refused(refusal: u32) -> Command
 
 // Reads the command that exactly these bytes are: 05 60 02 80 01 00 00 00 gives RD, code 6005 (hex), one word, 1.
 pub fn read_command(bytes: &[u8]) -> Command
-    ensures { result ≡ readCommand bytes.now }
+    ensures { result ≡ read_command bytes.now }
 {
     let unframed = framing_of(bytes);
     if unframed != 0 {

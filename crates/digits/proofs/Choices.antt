@@ -41,8 +41,8 @@ pub and_parts : (a b : Bool) → (a && b) ≡ true → (a ≡ true) × (b ≡ tr
 and_parts a b h = (and_left a b h, and_right a b h)
 
 -- the bounds of a range that a number lies in
-pub within-bounds : (low high n : ℕ) → within low high n ≡ true → (low ≤ n) × (n ≤ high)
-within-bounds low high n h =
+pub within_bounds : (low high n : ℕ) → within low high n ≡ true → (low ≤ n) × (n ≤ high)
+within_bounds low high n h =
     let p = and_parts (leb low n) (leb n high) h in
     (leb-true low n p.0, leb-true n high p.1)
 
@@ -52,9 +52,9 @@ and_both true b p q = q
 and_both false b p q = p
 
 -- a conjunction whose right test fails
-pub and-fails-right : (a b : Bool) → b ≡ false → (a && b) ≡ false
-and-fails-right true b p = p
-and-fails-right false b p = refl
+pub and_fails_right : (a b : Bool) → b ≡ false → (a && b) ≡ false
+and_fails_right true b p = p
+and_fails_right false b p = refl
 
 -- either of two tests is enough
 pub or_right : (a b : Bool) → b ≡ true → (a || b) ≡ true
@@ -69,6 +69,6 @@ cond_same true x = refl
 cond_same false x = refl
 
 -- a function of a choice is a choice of its values
-pub cond-apply : {A B : Type 0} (f : A → B) (t : Bool) (x y : A) → f (cond t x y) ≡ cond t (f x) (f y)
-cond-apply f true x y = refl
-cond-apply f false x y = refl
+pub cond_apply : {A B : Type 0} (f : A → B) (t : Bool) (x y : A) → f (cond t x y) ≡ cond t (f x) (f y)
+cond_apply f true x y = refl
+cond_apply f false x y = refl

@@ -1,4 +1,4 @@
--- Stores into a lent buffer, one piece behind the other, and the three answers of a writer. The engine is `sets-append`: storing two pieces
+-- Stores into a lent buffer, one piece behind the other, and the three answers of a writer. The engine is `sets_append`: storing two pieces
 -- is storing the first, then the second behind it.
 use mathlib.Core.Path.{◌≡◌, refl, sym, subst, ap, ◌∙◌}
 use mathlib.Core.Bool.{true}
@@ -12,32 +12,32 @@ use borrow.Author.Tests.{le-leb, lt-leb, eq-eqb, ne_eqb}
 use lib.Dec.{leb}
 use lib.ListN.{length, take, drop, set}
 use lib.Seq.{sets, sets-eq, length-sets, set_comm, take_at}
-use Rattle.digits.specs.LittleEndian.{toLittle}
-use Rattle.digits.specs.Stores.{stored, storedWithin, wordStored, writerAnswer, Writes}
+use Rattle.digits.specs.LittleEndian.{to_little}
+use Rattle.digits.specs.Stores.{stored, stored_within, word_stored, writer_answer, Writes}
 use Rattle.digits.specs.declared.Written.{Written}
-use Rattle.digits.proofs.Choices.{cond-apply, cond_same}
+use Rattle.digits.proofs.Choices.{cond_apply, cond_same}
 
 -- -- Pieces one behind the other
 
 -- two pieces: the first, then the second behind it
-pub sets-append : (l : List ℕ) (at : ℕ) (xs ys : List ℕ) → sets l at (xs ++ ys) ≡ sets (sets l at xs) (at + length xs) ys
-sets-append l at [] ys = rw (add-zero at)
-sets-append l at (x ∷ xs) ys =
+pub sets_append : (l : List ℕ) (at : ℕ) (xs ys : List ℕ) → sets l at (xs ++ ys) ≡ sets (sets l at xs) (at + length xs) ys
+sets_append l at [] ys = rw (add-zero at)
+sets_append l at (x ∷ xs) ys =
     let e : at + suc (length xs) ≡ suc at + length xs = omega arith in
-    rw e (sets-append (set l at x) (suc at) xs ys)
+    rw e (sets_append (set l at x) (suc at) xs ys)
 
 -- a store behind a piece may come before it
-pub set-behind : (l : List ℕ) (at : ℕ) (xs : List ℕ) (j b : ℕ) → at + length xs ≤ j → set (sets l at xs) j b ≡ sets (set l j b) at xs
-set-behind l at [] j b h = refl
-set-behind l at (x ∷ xs) j b h =
-    set-behind (set l at x) (suc at) xs j b (omega arith) ∙ ap (λ (k : List ℕ). sets k (suc at) xs) (set_comm l at j x b (λ e. omega arith))
+pub set_behind : (l : List ℕ) (at : ℕ) (xs : List ℕ) (j b : ℕ) → at + length xs ≤ j → set (sets l at xs) j b ≡ sets (set l j b) at xs
+set_behind l at [] j b h = refl
+set_behind l at (x ∷ xs) j b h =
+    set_behind (set l at x) (suc at) xs j b (omega arith) ∙ ap (λ (k : List ℕ). sets k (suc at) xs) (set_comm l at j x b (λ e. omega arith))
 
 -- -- The same of `stored`
 
 -- no bytes change nothing
-pub stored-nil : (l : List ℕ) (at : ℕ) → stored l at [] ≡ l
+pub stored_nil : (l : List ℕ) (at : ℕ) → stored l at [] ≡ l
 unfolding stored
-stored-nil l at = refl
+stored_nil l at = refl
 
 -- one byte is one store
 pub stored_one : (l : List ℕ) (at b : ℕ) → set l at b ≡ stored l at (b ∷ [])
@@ -45,84 +45,84 @@ unfolding stored
 stored_one l at b = refl
 
 -- two pieces: the first, then the second behind it
-pub stored-append : (l : List ℕ) (at : ℕ) (xs ys : List ℕ) → stored l at (xs ++ ys) ≡ stored (stored l at xs) (at + length xs) ys
+pub stored_append : (l : List ℕ) (at : ℕ) (xs ys : List ℕ) → stored l at (xs ++ ys) ≡ stored (stored l at xs) (at + length xs) ys
 unfolding stored
-stored-append l at xs ys = sets-append l at xs ys
+stored_append l at xs ys = sets_append l at xs ys
 
 -- a piece stored, then what follows it, is both stored at once: the step of every writer
 pub then : (l l' r : List ℕ) (at n : ℕ) (xs ys : List ℕ) → l' ≡ stored l at xs → length xs ≡ n → r ≡ stored l' (at + n) ys
     → r ≡ stored l at (xs ++ ys)
-then l l' r at n xs ys p e q = q ∙ ap (λ (k : List ℕ). stored k (at + n) ys) p ∙ rw (← e) (sym (stored-append l at xs ys))
+then l l' r at n xs ys p e q = q ∙ ap (λ (k : List ℕ). stored k (at + n) ys) p ∙ rw (← e) (sym (stored_append l at xs ys))
 
 -- a store keeps the length
-pub length-stored : (l : List ℕ) (at : ℕ) (bs : List ℕ) → length (stored l at bs) ≡ length l
+pub length_stored : (l : List ℕ) (at : ℕ) (bs : List ℕ) → length (stored l at bs) ≡ length l
 unfolding stored
-length-stored l at bs = length-sets l at bs
+length_stored l at bs = length-sets l at bs
 
 -- bytes that fit replace those at their offsets, and all others stay
-pub stored-parts : (l : List ℕ) (at : ℕ) (bs : List ℕ) → at + length bs ≤ length l
+pub stored_parts : (l : List ℕ) (at : ℕ) (bs : List ℕ) → at + length bs ≤ length l
     → stored l at bs ≡ take at l ++ bs ++ drop (at + length bs) l
 unfolding stored
-stored-parts l at bs h = sets-eq bs l at h
+stored_parts l at bs h = sets-eq bs l at h
 
 -- bytes stored at the start: they come first, and all behind them stay
-pub stored-start : (l bs : List ℕ) → length bs ≤ length l → stored l 0 bs ≡ bs ++ drop (length bs) l
-stored-start l bs h = rw (zero-add (length bs)) at (stored-parts l 0 bs (omega arith))
+pub stored_start : (l bs : List ℕ) → length bs ≤ length l → stored l 0 bs ≡ bs ++ drop (length bs) l
+stored_start l bs h = rw (zero-add (length bs)) at (stored_parts l 0 bs (omega arith))
 
 -- -- Stores that fit or change nothing
 
 -- bytes that fit are stored
-pub within-fits : (l : List ℕ) (at : ℕ) (bs : List ℕ) → at + length bs ≤ length l → storedWithin l at bs ≡ stored l at bs
-unfolding storedWithin
-within-fits l at bs h = rw (le-leb (at + length bs) (length l) h)
+pub within_fits : (l : List ℕ) (at : ℕ) (bs : List ℕ) → at + length bs ≤ length l → stored_within l at bs ≡ stored l at bs
+unfolding stored_within
+within_fits l at bs h = rw (le-leb (at + length bs) (length l) h)
 
 -- bytes that do not fit change nothing
-pub within-unfit : (l : List ℕ) (at : ℕ) (bs : List ℕ) → length l < at + length bs → storedWithin l at bs ≡ l
-unfolding storedWithin
-within-unfit l at bs h = rw (lt-leb (at + length bs) (length l) h)
+pub within_unfit : (l : List ℕ) (at : ℕ) (bs : List ℕ) → length l < at + length bs → stored_within l at bs ≡ l
+unfolding stored_within
+within_unfit l at bs h = rw (lt-leb (at + length bs) (length l) h)
 
 -- either way the length stays
-pub length-within : (l : List ℕ) (at : ℕ) (bs : List ℕ) → length (storedWithin l at bs) ≡ length l
-unfolding storedWithin
-length-within l at bs =
-    cond-apply length (leb (at + length bs) (length l)) (stored l at bs) l
-    ∙ rw (length-stored l at bs) (cond_same (leb (at + length bs) (length l)) (length l))
+pub length_within : (l : List ℕ) (at : ℕ) (bs : List ℕ) → length (stored_within l at bs) ≡ length l
+unfolding stored_within
+length_within l at bs =
+    cond_apply length (leb (at + length bs) (length l)) (stored l at bs) l
+    ∙ rw (length_stored l at bs) (cond_same (leb (at + length bs) (length l)) (length l))
 
 -- a piece that fits, then what follows it, is both stored at once: the step of every writer with room for m bytes
-pub then-within : (l l' r : List ℕ) (m at n : ℕ) (xs ys : List ℕ) → m ≤ length l → at + n ≤ m → length xs ≡ n → l' ≡ storedWithin l at xs
+pub then_within : (l l' r : List ℕ) (m at n : ℕ) (xs ys : List ℕ) → m ≤ length l → at + n ≤ m → length xs ≡ n → l' ≡ stored_within l at xs
     → (m ≤ length l' → r ≡ stored l' (at + n) ys) → r ≡ stored l at (xs ++ ys)
-then-within l l' r m at n xs ys room fits size p rest =
-    let same : length l' ≡ length l = ap length p ∙ length-within l at xs in
-    then l l' r at n xs ys (p ∙ within-fits l at xs (omega arith)) size (rest (omega arith))
+then_within l l' r m at n xs ys room fits size p rest =
+    let same : length l' ≡ length l = ap length p ∙ length_within l at xs in
+    then l l' r at n xs ys (p ∙ within_fits l at xs (omega arith)) size (rest (omega arith))
 
 -- the last piece
-pub last_within : (l r : List ℕ) (m at : ℕ) (xs : List ℕ) → m ≤ length l → at + length xs ≤ m → r ≡ storedWithin l at xs
+pub last_within : (l r : List ℕ) (m at : ℕ) (xs : List ℕ) → m ≤ length l → at + length xs ≤ m → r ≡ stored_within l at xs
     → r ≡ stored l at xs
-last_within l r m at xs room fits p = p ∙ within-fits l at xs (omega arith)
+last_within l r m at xs room fits p = p ∙ within_fits l at xs (omega arith)
 
 -- -- 32-bit numbers
 
 -- a number that fits is its four bytes
-pub word_fits : (l : List ℕ) (at v : ℕ) → at + 4 ≤ length l → wordStored l at v ≡ stored l at (toLittle 4 v)
-unfolding wordStored toLittle
-word_fits l at v h = within-fits l at (toLittle 4 v) h
+pub word_fits : (l : List ℕ) (at v : ℕ) → at + 4 ≤ length l → word_stored l at v ≡ stored l at (to_little 4 v)
+unfolding word_stored to_little
+word_fits l at v h = within_fits l at (to_little 4 v) h
 
 -- a number that does not fit changes nothing
-pub word-unfit : (l : List ℕ) (at v : ℕ) → length l < at + 4 → wordStored l at v ≡ l
-unfolding wordStored toLittle
-word-unfit l at v h = within-unfit l at (toLittle 4 v) h
+pub word_unfit : (l : List ℕ) (at v : ℕ) → length l < at + 4 → word_stored l at v ≡ l
+unfolding word_stored to_little
+word_unfit l at v h = within_unfit l at (to_little 4 v) h
 
 -- either way the length stays
-pub length-word-stored : (l : List ℕ) (at v : ℕ) → length (wordStored l at v) ≡ length l
-unfolding wordStored
-length-word-stored l at v = length-within l at (toLittle 4 v)
+pub length_word_stored : (l : List ℕ) (at v : ℕ) → length (word_stored l at v) ≡ length l
+unfolding word_stored
+length_word_stored l at v = length_within l at (to_little 4 v)
 
 -- four stores in a row are the number
-pub four-stores : (l : List ℕ) (at v : ℕ) → at + 4 ≤ length l
+pub four_stores : (l : List ℕ) (at v : ℕ) → at + 4 ≤ length l
     → set (set (set (set l at (v % 256)) (at + 1) (v / 256 % 256)) (at + 2) (v / 256 / 256 % 256)) (at + 3) (v / 256 / 256 / 256 % 256)
-    ≡ wordStored l at v
-unfolding stored toLittle
-four-stores l at v h = rw (word_fits l at v h, add-one, add-two, add-three)
+    ≡ word_stored l at v
+unfolding stored to_little
+four_stores l at v h = rw (word_fits l at v h, add-one, add-two, add-three)
 
 -- -- The three answers of a writer
 
@@ -162,7 +162,7 @@ pub succeeded : (refusal : ℕ) (bytes out : List ℕ) (r : Written) (after : Li
     → Succeeded refusal bytes out r after
 succeeded refusal bytes out r after w z = go (ℕ_discrete refusal 0) (dec_le (length bytes) (length out))
   where
-    number : r.refusal ≡ (writerAnswer refusal bytes out).refusal
+    number : r.refusal ≡ (writer_answer refusal bytes out).refusal
     number = ap (λ (a : Written). a.refusal) w.answers
 
     go : Dec (refusal ≡ 0) → Dec (length bytes ≤ length out) → Succeeded refusal bytes out r after
@@ -171,7 +171,7 @@ succeeded refusal bytes out r after w z = go (ℕ_discrete refusal 0) (dec_le (l
           fine = e;
           fits = l;
           size = ap (λ (a : Written). a.size) w.answers ∙ rw (eq-eqb refusal 0 e, le-leb (length bytes) (length out) l);
-          buffer = w.leaves ∙ rw (eq-eqb refusal 0 e, le-leb (length bytes) (length out) l) (stored-start out bytes l);
+          buffer = w.leaves ∙ rw (eq-eqb refusal 0 e, le-leb (length bytes) (length out) l) (stored_start out bytes l);
         }
     go (yes e) (no l) =
         let n : r.refusal ≡ 51 = number ∙ rw (eq-eqb refusal 0 e, lt-leb (length bytes) (length out) (omega arith)) in
@@ -185,7 +185,7 @@ pub refused : (refusal : ℕ) (bytes out : List ℕ) (r : Written) (after : List
     → (after ≡ out) × (r.size ≡ 0)
 refused refusal bytes out r after w z = go (ℕ_discrete refusal 0) (dec_le (length bytes) (length out))
   where
-    number : r.refusal ≡ (writerAnswer refusal bytes out).refusal
+    number : r.refusal ≡ (writer_answer refusal bytes out).refusal
     number = ap (λ (a : Written). a.refusal) w.answers
 
     go : Dec (refusal ≡ 0) → Dec (length bytes ≤ length out) → (after ≡ out) × (r.size ≡ 0)
@@ -199,18 +199,18 @@ refused refusal bytes out r after w z = go (ℕ_discrete refusal 0) (dec_le (len
 -- -- Round trips through the lent buffer
 
 -- whatever holds of the bytes of a writer's values holds of what it left at the buffer's start
-pub left-holds : (P : List ℕ → Type 0) (refusal : ℕ) (bytes out : List ℕ) (r : Written) (after : List ℕ) → (refusal ≡ 0 → P bytes)
+pub left_holds : (P : List ℕ → Type 0) (refusal : ℕ) (bytes out : List ℕ) (r : Written) (after : List ℕ) → (refusal ≡ 0 → P bytes)
     → Writes refusal bytes out r after → r.refusal ≡ 0 → P (take r.size after)
-left-holds P refusal bytes out r after holds w z =
+left_holds P refusal bytes out r after holds w z =
     let s = succeeded refusal bytes out r after w z in
     let e : take r.size after ≡ bytes = rw s.buffer (take_at bytes (drop (length bytes) out) r.size (sym s.size)) in
     subst P (sym e) (holds s.fine)
 
 -- values that are not refused, into a buffer with room: their bytes come first at exit, and all behind them stay
-pub left-again : (refusal : ℕ) (bytes frame out : List ℕ) (r : Written) (after : List ℕ) → refusal ≡ 0 → bytes ≡ frame
+pub left_again : (refusal : ℕ) (bytes frame out : List ℕ) (r : Written) (after : List ℕ) → refusal ≡ 0 → bytes ≡ frame
     → length frame ≤ length out
     → Writes refusal bytes out r after → (r.refusal ≡ 0) × (after ≡ frame ++ drop (length frame) out)
-left-again refusal bytes frame out r after fine same room w =
+left_again refusal bytes frame out r after fine same room w =
     let v : Writes 0 frame out r after = rw (fine, same) at w in
     let l : leb (length frame) (length out) ≡ true = le-leb (length frame) (length out) room in
     let z : r.refusal ≡ 0 = ap (λ (a : Written). a.refusal) v.answers ∙ rw l in

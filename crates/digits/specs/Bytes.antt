@@ -15,9 +15,9 @@ abbrev pub within : ℕ → ℕ → ℕ → Bool
 within low high b = leb low b && leb b high
 
 -- an upper-case hex digit (paper 01, "The three wires": lower case is refused)
-abbrev pub isHex : ℕ → Bool
-isHex b = within 48 57 b || within 65 70 b
+abbrev pub is_hex : ℕ → Bool
+is_hex b = within 48 57 b || within 65 70 b
 
 -- a "character" is a byte 34 to 254 (document 000, data field; paper 01, "The three wires")
-abbrev pub isCharacter : ℕ → Bool
-isCharacter b = within 34 254 b
+abbrev pub is_character : ℕ → Bool
+is_character b = within 34 254 b

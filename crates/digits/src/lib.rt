@@ -2,7 +2,7 @@
 // `hex_numbers`, `numbers` and `stores` have the code.
 
 ghost use Rattle.std.specs.Prelude.{◌≡◌, ◌&&◌, ◌||◌, ◌%◌};
-ghost use Rattle.digits.specs.Bytes.{within, isHex, isCharacter};
+ghost use Rattle.digits.specs.Bytes.{within, is_hex, is_character};
 ghost use Rattle.digits.specs.Hex.{digit, glyph};
 
 // The refusal of every writer whose output is too short (paper 01, "Refusal numbers").
@@ -45,7 +45,7 @@ fn between(low: u8, high: u8, b: u8) -> bool
 
 // Whether a byte is an upper-case hex digit: 70 (`F`) is, 71 and 102 (`f`) are not.
 pub fn is_hex(b: u8) -> bool
-    ensures { result ≡ isHex b }
+    ensures { result ≡ is_hex b }
 {
     let figure = between(b'0', b'9', b);
     let letter = between(b'A', b'F', b);
@@ -54,7 +54,7 @@ pub fn is_hex(b: u8) -> bool
 
 // Whether a byte is a character: 34 and 254 are, 33 (`!`) and 255 are not.
 pub fn is_character(b: u8) -> bool
-    ensures { result ≡ isCharacter b }
+    ensures { result ≡ is_character b }
 {
     between(FIRST_CHARACTER, LAST_CHARACTER, b)
 }

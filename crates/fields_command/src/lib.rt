@@ -3,8 +3,8 @@
 
 ghost use Rattle.std.specs.Prelude.{◌≡◌};
 ghost use Rattle.digits.specs.Stores.{Writes};
-ghost use Rattle.demorad.specs.Reading.{readCommand};
-ghost use Rattle.fields_command.specs.Numbers.{rdNumber, commandNumbers, numbersRefusal, numbersBytes};
+ghost use Rattle.demorad.specs.Reading.{read_command};
+ghost use Rattle.fields_command.specs.Numbers.{rd_number, command_numbers, numbers_refusal, numbers_bytes};
 
 use digits::Written;
 
@@ -25,7 +25,7 @@ pub struct CommandNumbers {
 
 // RD as a number.
 fn rd_number(rd: bool) -> u32
-    ensures { result ≡ rdNumber rd }
+    ensures { result ≡ rd_number rd }
 {
     if rd {
         return 1;
@@ -36,7 +36,7 @@ fn rd_number(rd: bool) -> u32
 // The command that exactly these bytes are; 40 to 46, rising.
 #[unsafe(no_mangle)]
 pub extern "C" fn vq_read_command(bytes: &[u8]) -> CommandNumbers
-    ensures { result ≡ commandNumbers (readCommand bytes.now) }
+    ensures { result ≡ command_numbers (read_command bytes.now) }
 {
     let command = demorad_read::read_command(bytes);
     let words = command.words;
@@ -53,7 +53,7 @@ pub extern "C" fn vq_read_command(bytes: &[u8]) -> CommandNumbers
 // Writes a command with RD, code, count and words of `command`, whose refusal counts for nothing; 44, 45, 46, 50 (an RD over 1), 51.
 #[unsafe(no_mangle)]
 pub extern "C" fn vq_write_command(out: &mut [u8], command: CommandNumbers) -> Written
-    ensures { Writes (numbersRefusal command) (numbersBytes command) out.old result out.new }
+    ensures { Writes (numbers_refusal command) (numbers_bytes command) out.old result out.new }
 {
     let words = command.words;
     if 1 < command.rd {

@@ -2,14 +2,14 @@
 // own promise. A slice is a pointer that is not null and a count; a struct crosses by value.
 
 ghost use Rattle.std.specs.Prelude.{◌≡◌};
-ghost use Rattle.packet.specs.Fields.{headerOf, RecordShown, StepShown, point_of};
+ghost use Rattle.packet.specs.Fields.{header_of, RecordShown, StepShown, point_of};
 
 use packet::{Cursor, PacketHeader, PacketPoint, PacketRecord, PacketStep};
 
 // The header of exactly one whole packet of a kind, 16 or 17; else 5.
 #[unsafe(no_mangle)]
 pub extern "C" fn vq_header(kind: u32, packet: &[u8]) -> PacketHeader
-    ensures { result ≡ headerOf kind packet.now }
+    ensures { result ≡ header_of kind packet.now }
 {
     packet_header::header(kind, packet)
 }

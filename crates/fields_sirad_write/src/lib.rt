@@ -2,8 +2,8 @@
 // own promise. A slice is a pointer that is not null and a count; a struct crosses by value.
 
 ghost use Rattle.digits.specs.Stores.{Writes};
-ghost use Rattle.sirad_fields.specs.Fields.{dataRefusal, dataBytes, targetsRefusal, targetsBytes};
-ghost use Rattle.sirad_fields.specs.Fields.{statusNumbers, statusRefusal, statusBytes, errorRefusal, errorBytes};
+ghost use Rattle.sirad_fields.specs.Fields.{data_refusal, data_bytes, targets_refusal, targets_bytes};
+ghost use Rattle.sirad_fields.specs.Fields.{status_numbers, status_refusal, status_bytes, error_refusal, error_bytes};
 
 use digits::Written;
 use sirad_fields::TargetFrame;
@@ -11,8 +11,8 @@ use sirad_fields::TargetFrame;
 // Writes a frame R, P or C (kinds 1 to 3) with these characters; 53, 52, 50, 51.
 #[unsafe(no_mangle)]
 pub extern "C" fn vq_write_data(out: &mut [u8], kind: u32, content: &[u8]) -> Written
-    ensures { Writes (dataRefusal kind content.now)
-        (dataBytes kind content.now) out.old result out.new }
+    ensures { Writes (data_refusal kind content.now)
+        (data_bytes kind content.now) out.old result out.new }
 {
     sirad_write_data::write_data(out, kind, content)
 }
@@ -20,8 +20,8 @@ pub extern "C" fn vq_write_data(out: &mut [u8], kind: u32, content: &[u8]) -> Wr
 // Writes a T frame with the format, gain and targets of `frame`, whose refusal counts for nothing; 50, 51.
 #[unsafe(no_mangle)]
 pub extern "C" fn vq_write_targets(out: &mut [u8], frame: TargetFrame) -> Written
-    ensures { Writes (targetsRefusal frame.format frame.gain frame.targets)
-        (targetsBytes frame.format frame.gain frame.targets) out.old result out.new }
+    ensures { Writes (targets_refusal frame.format frame.gain frame.targets)
+        (targets_bytes frame.format frame.gain frame.targets) out.old result out.new }
 {
     let targets = frame.targets;
     sirad_targets::write_targets(out, frame.format, frame.gain, targets)
@@ -39,8 +39,8 @@ pub extern "C" fn vq_write_status(
     bandwidth: u16,
     time: u16,
 ) -> Written
-    ensures { Writes (statusRefusal (statusNumbers format gain accuracy range ramp bandwidth time))
-        (statusBytes (statusNumbers format gain accuracy range ramp bandwidth time)) out.old result out.new }
+    ensures { Writes (status_refusal (status_numbers format gain accuracy range ramp bandwidth time))
+        (status_bytes (status_numbers format gain accuracy range ramp bandwidth time)) out.old result out.new }
 {
     sirad_write::write_status(out, format, gain, accuracy, range, ramp, bandwidth, time)
 }
@@ -48,7 +48,7 @@ pub extern "C" fn vq_write_status(
 // Writes an E frame; 51.
 #[unsafe(no_mangle)]
 pub extern "C" fn vq_write_error(out: &mut [u8], flags: u16) -> Written
-    ensures { Writes (errorRefusal flags) (errorBytes flags) out.old result out.new }
+    ensures { Writes (error_refusal flags) (error_bytes flags) out.old result out.new }
 {
     sirad_write::write_error(out, flags)
 }

@@ -12,28 +12,28 @@ use Rattle.form.specs.Pieces.{four, marker, free, frees}
 -- -- Live
 
 -- a four-byte field with a test that some number passes
-pub live-four : (r : ℕ → ℕ) (t : ℕ → Bool) (h : ℕ → Form) (v : ℕ) → v < 2 ^ 32 → t v ≡ true
+pub live_four : (r : ℕ → ℕ) (t : ℕ → Bool) (h : ℕ → Form) (v : ℕ) → v < 2 ^ 32 → t v ≡ true
     → ((v : ℕ) → v < 2 ^ 32 → t v ≡ true → Live (h v)) → Live (four r t >>= h)
 unfolding Live ◌>>=◌
-live-four r t h v s a l = ((v, s, a), l)
+live_four r t h v s a l = ((v, s, a), l)
 
 -- free bytes
-pub live-free : (n : ℕ) (h : ℕ → Form) → Live (h 0) → Live (free n >>= h)
+pub live_free : (n : ℕ) (h : ℕ → Form) → Live (h 0) → Live (free n >>= h)
 unfolding Live ◌>>=◌ free
-live-free zero h l = l
-live-free (suc n) h l = ((0, omega arith, refl), λ b s a. live-free n h l)
+live_free zero h l = l
+live_free (suc n) h l = ((0, omega arith, refl), λ b s a. live_free n h l)
 
 -- free four-byte fields
-pub live-frees : (n : ℕ) (h : ℕ → Form) → Live (h 0) → Live (frees n >>= h)
+pub live_frees : (n : ℕ) (h : ℕ → Form) → Live (h 0) → Live (frees n >>= h)
 unfolding Live ◌>>=◌ frees
-live-frees zero h l = l
-live-frees (suc n) h l = ((0, omega arith, refl), λ v s a. live-frees n h l)
+live_frees zero h l = l
+live_frees (suc n) h l = ((0, omega arith, refl), λ v s a. live_frees n h l)
 
 -- the given bytes
-pub live-marker : (r : ℕ) (ms : List ℕ) (h : ℕ → Form) → Bytes ms → Live (h 0) → Live (marker r ms >>= h)
+pub live_marker : (r : ℕ) (ms : List ℕ) (h : ℕ → Form) → Bytes ms → Live (h 0) → Live (marker r ms >>= h)
 unfolding Live ◌>>=◌ marker Below
-live-marker r [] h s l = l
-live-marker r (m ∷ ms) h s l = ((m, s.0, eq-eqb m m refl), λ b i a. live-marker r ms h s.1 l)
+live_marker r [] h s l = l
+live_marker r (m ∷ ms) h s l = ((m, s.0, eq-eqb m m refl), λ b i a. live_marker r ms h s.1 l)
 
 -- a live piece, and then a live one
 pub live_then : (p : Form) (h : ℕ → Form) → Live p → ((v : ℕ) → Live (h v)) → Live (p >>= h)
@@ -52,9 +52,9 @@ plain_then (byte r t f) h l n = λ b. plain_then (f b) h (l b) n
 plain_then (word r t f) h l n = absurd l
 
 -- no bytes end inside a four-byte field of a form that has none
-pub plain-outside : (p : Form) (xs : List ℕ) → Plain p → Inside p xs → ⊥
+pub plain_outside : (p : Form) (xs : List ℕ) → Plain p → Inside p xs → ⊥
 unfolding Plain Inside
-plain-outside (whole v) xs l i = i
-plain-outside (byte r t f) [] l i = i
-plain-outside (byte r t f) (b ∷ xs) l i = plain-outside (f b) xs (l b) i.1
-plain-outside (word r t f) xs l i = absurd l
+plain_outside (whole v) xs l i = i
+plain_outside (byte r t f) [] l i = i
+plain_outside (byte r t f) (b ∷ xs) l i = plain_outside (f b) xs (l b) i.1
+plain_outside (word r t f) xs l i = absurd l

@@ -11,49 +11,49 @@ use lib.ListN.{length, take, drop, get_or, length-drop, drop_of_length-le}
 use borrow.Author.Tests.{eq-eqb, ne_eqb, eqb-true}
 use types.Run.{OneOf, miss}
 use denote.Enum.Declared.{tag_of}
-use Rattle.digits.specs.LittleEndian.{fromLittle, littleAt}
-use Rattle.digits.proofs.Lists.{drop-one, drop-four}
+use Rattle.digits.specs.LittleEndian.{from_little, little_at}
+use Rattle.digits.proofs.Lists.{drop_one, drop_four}
 use Rattle.form.specs.declared.Judgement.{Judgement}
 use Rattle.form.specs.declared.Judgement.TheVariants.{Whole, Bad, Waiting}
-use Rattle.form.specs.Form.{Form, whole, byte, word, ◌>>=◌, judge, judgeAt}
-use Rattle.form.specs.Numbers.{numbersOf, Judges}
+use Rattle.form.specs.Form.{Form, whole, byte, word, ◌>>=◌, judge, judge_at}
+use Rattle.form.specs.Numbers.{numbers_of, Judges}
 use Rattle.form.specs.Pieces.{any, always, four, marker, free, frees}
 use Rattle.form.specs.contracts.Judgement.{the_type}
 
 -- the promise of a judgement is its equation
-pub judges : {p : Form} {at : ℕ} {bs : List ℕ} {r : Judgement} → r ≡ judgeAt p at bs → Judges p at bs r
-judges e = record { answers = e; numbers = ap numbersOf e }
+pub judges : {p : Form} {at : ℕ} {bs : List ℕ} {r : Judgement} → r ≡ judge_at p at bs → Judges p at bs r
+judges e = record { answers = e; numbers = ap numbers_of e }
 
 -- -- One node
 
 -- a byte node at a byte that is there
 pub byte_step : (r : ℕ) (t : ℕ → Bool) (f : ℕ → Form) (at : ℕ) (bs : List ℕ) → at < length bs
-    → judgeAt (byte r t f) at bs ≡ cond (t (get_or bs at 0)) (judgeAt (f (get_or bs at 0)) (at + 1) bs) (Bad r)
+    → judge_at (byte r t f) at bs ≡ cond (t (get_or bs at 0)) (judge_at (f (get_or bs at 0)) (at + 1) bs) (Bad r)
 unfolding judge
-byte_step r t f at bs h = rw (drop-one bs at h)
+byte_step r t f at bs h = rw (drop_one bs at h)
 
 -- a byte node behind the last byte
-pub byte-ends : (r : ℕ) (t : ℕ → Bool) (f : ℕ → Form) (at : ℕ) (bs : List ℕ) → length bs ≤ at → judgeAt (byte r t f) at bs ≡ Waiting
+pub byte_ends : (r : ℕ) (t : ℕ → Bool) (f : ℕ → Form) (at : ℕ) (bs : List ℕ) → length bs ≤ at → judge_at (byte r t f) at bs ≡ Waiting
 unfolding judge
-byte-ends r t f at bs h = rw (drop_of_length-le bs {i = at} h)
+byte_ends r t f at bs h = rw (drop_of_length-le bs {i = at} h)
 
 -- a four-byte node whose bytes are there
-pub word-step : (r : ℕ → ℕ) (t : ℕ → Bool) (f : ℕ → Form) (at : ℕ) (bs : List ℕ) → at + 4 ≤ length bs
-    → judgeAt (word r t f) at bs ≡ cond (t (littleAt 4 at bs)) (judgeAt (f (littleAt 4 at bs)) (at + 4) bs) (Bad (r (littleAt 4 at bs)))
+pub word_step : (r : ℕ → ℕ) (t : ℕ → Bool) (f : ℕ → Form) (at : ℕ) (bs : List ℕ) → at + 4 ≤ length bs
+    → judge_at (word r t f) at bs ≡ cond (t (little_at 4 at bs)) (judge_at (f (little_at 4 at bs)) (at + 4) bs) (Bad (r (little_at 4 at bs)))
 unfolding judge
-word-step r t f at bs h = rw (drop-four bs at h)
+word_step r t f at bs h = rw (drop_four bs at h)
 
-word-short : (r : ℕ → ℕ) (t : ℕ → Bool) (f : ℕ → Form) (at : ℕ) (xs : List ℕ) → length xs < 4 → judge (word r t f) at xs ≡ Waiting
+word_short : (r : ℕ → ℕ) (t : ℕ → Bool) (f : ℕ → Form) (at : ℕ) (xs : List ℕ) → length xs < 4 → judge (word r t f) at xs ≡ Waiting
 unfolding judge
-word-short r t f at [] h = refl
-word-short r t f at (a ∷ []) h = refl
-word-short r t f at (a ∷ b ∷ []) h = refl
-word-short r t f at (a ∷ b ∷ c ∷ []) h = refl
-word-short r t f at (a ∷ b ∷ c ∷ d ∷ xs) h = absurd (omega arith)
+word_short r t f at [] h = refl
+word_short r t f at (a ∷ []) h = refl
+word_short r t f at (a ∷ b ∷ []) h = refl
+word_short r t f at (a ∷ b ∷ c ∷ []) h = refl
+word_short r t f at (a ∷ b ∷ c ∷ d ∷ xs) h = absurd (omega arith)
 
 -- a four-byte node whose fourth byte is not there
-pub word-ends : (r : ℕ → ℕ) (t : ℕ → Bool) (f : ℕ → Form) (at : ℕ) (bs : List ℕ) → length bs < at + 4 → judgeAt (word r t f) at bs ≡ Waiting
-word-ends r t f at bs h = word-short r t f at (drop at bs) (simp length-drop (omega arith))
+pub word_ends : (r : ℕ → ℕ) (t : ℕ → Bool) (f : ℕ → Form) (at : ℕ) (bs : List ℕ) → length bs < at + 4 → judge_at (word r t f) at bs ≡ Waiting
+word_ends r t f at bs h = word_short r t f at (drop at bs) (simp length-drop (omega arith))
 
 -- -- A piece, and then another
 
@@ -63,63 +63,63 @@ after (Whole v e) h = h v e
 after (Bad r) h = Bad r
 after Waiting h = Waiting
 
-after-cond : (t : Bool) (x : Judgement) (r : ℕ) (h : ℕ → ℕ → Judgement) (y : Judgement) → y ≡ after x h
+after_cond : (t : Bool) (x : Judgement) (r : ℕ) (h : ℕ → ℕ → Judgement) (y : Judgement) → y ≡ after x h
     → cond t y (Bad r) ≡ after (cond t x (Bad r)) h
-after-cond true x r h y e = e
-after-cond false x r h y e = refl
+after_cond true x r h y e = e
+after_cond false x r h y e = refl
 
 -- what the judgement of two pieces is: that of the first and then of the second, from the end of the first
 Seq : Form → (ℕ → Form) → ℕ → List ℕ → Type 0
-Seq p h at bs = judgeAt (p >>= h) at bs ≡ after (judgeAt p at bs) (λ v e. judgeAt (h v) e bs)
+Seq p h at bs = judge_at (p >>= h) at bs ≡ after (judge_at p at bs) (λ v e. judge_at (h v) e bs)
 
 module _ (r : ℕ) (t : ℕ → Bool) (f : ℕ → Form) (h : ℕ → Form) (at : ℕ) (bs : List ℕ) where
-  seq-byte : Seq (f (get_or bs at 0)) h (at + 1) bs → Seq (byte r t f) h at bs
+  seq_byte : Seq (f (get_or bs at 0)) h (at + 1) bs → Seq (byte r t f) h at bs
   unfolding Seq ◌>>=◌
-  seq-byte s = go (dec_lt at (length bs))
+  seq_byte s = go (dec_lt at (length bs))
     where
-      go : Dec (at < length bs) → judgeAt (byte r t f >>= h) at bs ≡ after (judgeAt (byte r t f) at bs) (λ v e. judgeAt (h v) e bs)
+      go : Dec (at < length bs) → judge_at (byte r t f >>= h) at bs ≡ after (judge_at (byte r t f) at bs) (λ v e. judge_at (h v) e bs)
       go (yes l) = byte_step r t (λ b. f b >>= h) at bs l
-          ∙ after-cond (t (get_or bs at 0)) (judgeAt (f (get_or bs at 0)) (at + 1) bs) r (λ v e. judgeAt (h v) e bs)
-          (judgeAt (f (get_or bs at 0) >>= h) (at + 1) bs) s
-          ∙ sym (ap (λ (j : Judgement). after j (λ v e. judgeAt (h v) e bs)) (byte_step r t f at bs l))
+          ∙ after_cond (t (get_or bs at 0)) (judge_at (f (get_or bs at 0)) (at + 1) bs) r (λ v e. judge_at (h v) e bs)
+          (judge_at (f (get_or bs at 0) >>= h) (at + 1) bs) s
+          ∙ sym (ap (λ (j : Judgement). after j (λ v e. judge_at (h v) e bs)) (byte_step r t f at bs l))
       go (no n) =
-          byte-ends r t (λ b. f b >>= h) at bs (omega arith)
-          ∙ sym (ap (λ (j : Judgement). after j (λ v e. judgeAt (h v) e bs)) (byte-ends r t f at bs (omega arith)))
+          byte_ends r t (λ b. f b >>= h) at bs (omega arith)
+          ∙ sym (ap (λ (j : Judgement). after j (λ v e. judge_at (h v) e bs)) (byte_ends r t f at bs (omega arith)))
 
 module _ (r : ℕ → ℕ) (t : ℕ → Bool) (f : ℕ → Form) (h : ℕ → Form) (at : ℕ) (bs : List ℕ) where
-  seq-word : Seq (f (littleAt 4 at bs)) h (at + 4) bs → Seq (word r t f) h at bs
+  seq_word : Seq (f (little_at 4 at bs)) h (at + 4) bs → Seq (word r t f) h at bs
   unfolding Seq ◌>>=◌
-  seq-word s = go (dec_le (at + 4) (length bs))
+  seq_word s = go (dec_le (at + 4) (length bs))
     where
-      go : Dec (at + 4 ≤ length bs) → judgeAt (word r t f >>= h) at bs ≡ after (judgeAt (word r t f) at bs) (λ v e. judgeAt (h v) e bs)
-      go (yes l) = word-step r t (λ b. f b >>= h) at bs l
-          ∙ after-cond (t (littleAt 4 at bs)) (judgeAt (f (littleAt 4 at bs)) (at + 4) bs) (r (littleAt 4 at bs))
-          (λ v e. judgeAt (h v) e bs) (judgeAt (f (littleAt 4 at bs) >>= h) (at + 4) bs) s
-          ∙ sym (ap (λ (j : Judgement). after j (λ v e. judgeAt (h v) e bs)) (word-step r t f at bs l))
+      go : Dec (at + 4 ≤ length bs) → judge_at (word r t f >>= h) at bs ≡ after (judge_at (word r t f) at bs) (λ v e. judge_at (h v) e bs)
+      go (yes l) = word_step r t (λ b. f b >>= h) at bs l
+          ∙ after_cond (t (little_at 4 at bs)) (judge_at (f (little_at 4 at bs)) (at + 4) bs) (r (little_at 4 at bs))
+          (λ v e. judge_at (h v) e bs) (judge_at (f (little_at 4 at bs) >>= h) (at + 4) bs) s
+          ∙ sym (ap (λ (j : Judgement). after j (λ v e. judge_at (h v) e bs)) (word_step r t f at bs l))
       go (no n) =
-          word-ends r t (λ b. f b >>= h) at bs (omega arith)
-          ∙ sym (ap (λ (j : Judgement). after j (λ v e. judgeAt (h v) e bs)) (word-ends r t f at bs (omega arith)))
+          word_ends r t (λ b. f b >>= h) at bs (omega arith)
+          ∙ sym (ap (λ (j : Judgement). after j (λ v e. judge_at (h v) e bs)) (word_ends r t f at bs (omega arith)))
 
-seq-any : (p : Form) (h : ℕ → Form) (at : ℕ) (bs : List ℕ) → Seq p h at bs
+seq_any : (p : Form) (h : ℕ → Form) (at : ℕ) (bs : List ℕ) → Seq p h at bs
 unfolding Seq ◌>>=◌ judge
-seq-any (whole v) h at bs = refl
-seq-any (byte r t f) h at bs = seq-byte r t f h at bs (seq-any (f (get_or bs at 0)) h (at + 1) bs)
-seq-any (word r t f) h at bs = seq-word r t f h at bs (seq-any (f (littleAt 4 at bs)) h (at + 4) bs)
+seq_any (whole v) h at bs = refl
+seq_any (byte r t f) h at bs = seq_byte r t f h at bs (seq_any (f (get_or bs at 0)) h (at + 1) bs)
+seq_any (word r t f) h at bs = seq_word r t f h at bs (seq_any (f (little_at 4 at bs)) h (at + 4) bs)
 
 -- the judgement of two pieces is that of the first and then of the second, from the end of the first
-pub seq : (p : Form) (h : ℕ → Form) (at : ℕ) (bs : List ℕ) → judgeAt (p >>= h) at bs ≡ after (judgeAt p at bs) (λ v e. judgeAt (h v) e bs)
+pub seq : (p : Form) (h : ℕ → Form) (at : ℕ) (bs : List ℕ) → judge_at (p >>= h) at bs ≡ after (judge_at p at bs) (λ v e. judge_at (h v) e bs)
 unfolding Seq
-seq p h at bs = seq-any p h at bs
+seq p h at bs = seq_any p h at bs
 
 -- the first piece is whole: the rest is judged from its end
-pub go_on : (p : Form) (h : ℕ → Form) (at : ℕ) (bs : List ℕ) {r : Judgement} {v e : ℕ} → r ≡ judgeAt p at bs → r ≡ Whole v e
-    → judgeAt (p >>= h) at bs ≡ judgeAt (h v) e bs
-go_on p h at bs a b = seq p h at bs ∙ ap (λ (j : Judgement). after j (λ v e. judgeAt (h v) e bs)) (sym a ∙ b)
+pub go_on : (p : Form) (h : ℕ → Form) (at : ℕ) (bs : List ℕ) {r : Judgement} {v e : ℕ} → r ≡ judge_at p at bs → r ≡ Whole v e
+    → judge_at (p >>= h) at bs ≡ judge_at (h v) e bs
+go_on p h at bs a b = seq p h at bs ∙ ap (λ (j : Judgement). after j (λ v e. judge_at (h v) e bs)) (sym a ∙ b)
 
 -- nothing more: the value, and the offset that was come to
-pub whole-there : (v at : ℕ) (bs : List ℕ) → Whole v at ≡ judgeAt (whole v) at bs
+pub whole_there : (v at : ℕ) (bs : List ℕ) → Whole v at ≡ judge_at (whole v) at bs
 unfolding judge
-whole-there v at bs = refl
+whole_there v at bs = refl
 
 -- what the else of `let Judgement::Whole(..) = r else` knows of r
 abbrev pub Halted : Judgement → Type 0
@@ -131,71 +131,71 @@ halted (Bad r) h o = refl
 halted Waiting h o = refl
 
 -- the first piece is not whole: its judgement is that of both
-pub halt : (p : Form) (h : ℕ → Form) (at : ℕ) (bs : List ℕ) {r : Judgement} → r ≡ judgeAt p at bs → Halted r → r ≡ judgeAt (p >>= h) at bs
+pub halt : (p : Form) (h : ℕ → Form) (at : ℕ) (bs : List ℕ) {r : Judgement} → r ≡ judge_at p at bs → Halted r → r ≡ judge_at (p >>= h) at bs
 halt p h at bs {r} a o =
-    sym (seq p h at bs ∙ ap (λ (j : Judgement). after j (λ v e. judgeAt (h v) e bs)) (sym a) ∙ halted r (λ v e. judgeAt (h v) e bs) o)
+    sym (seq p h at bs ∙ ap (λ (j : Judgement). after j (λ v e. judge_at (h v) e bs)) (sym a) ∙ halted r (λ v e. judge_at (h v) e bs) o)
 
 -- the first piece is bad: so are both
-pub stop : (p : Form) (h : ℕ → Form) (at : ℕ) (bs : List ℕ) {r : ℕ} → Bad r ≡ judgeAt p at bs → Bad r ≡ judgeAt (p >>= h) at bs
-stop p h at bs a = sym (seq p h at bs ∙ ap (λ (j : Judgement). after j (λ v e. judgeAt (h v) e bs)) (sym a))
+pub stop : (p : Form) (h : ℕ → Form) (at : ℕ) (bs : List ℕ) {r : ℕ} → Bad r ≡ judge_at p at bs → Bad r ≡ judge_at (p >>= h) at bs
+stop p h at bs a = sym (seq p h at bs ∙ ap (λ (j : Judgement). after j (λ v e. judge_at (h v) e bs)) (sym a))
 
 -- -- A four-byte field
 
 -- a field whose fourth byte is not there waits
-pub four-waits : (r : ℕ → ℕ) (t : ℕ → Bool) (at : ℕ) (bs : List ℕ) → length bs < at + 4 → Waiting ≡ judgeAt (four r t) at bs
-four-waits r t at bs h = sym (word-ends r t whole at bs h)
+pub four_waits : (r : ℕ → ℕ) (t : ℕ → Bool) (at : ℕ) (bs : List ℕ) → length bs < at + 4 → Waiting ≡ judge_at (four r t) at bs
+four_waits r t at bs h = sym (word_ends r t whole at bs h)
 
 -- a field that is there and passes is whole
-pub four-whole : (r : ℕ → ℕ) (t : ℕ → Bool) (at : ℕ) (bs : List ℕ) → at + 4 ≤ length bs → t (littleAt 4 at bs) ≡ true
-    → Whole (littleAt 4 at bs) (at + 4) ≡ judgeAt (four r t) at bs
+pub four_whole : (r : ℕ → ℕ) (t : ℕ → Bool) (at : ℕ) (bs : List ℕ) → at + 4 ≤ length bs → t (little_at 4 at bs) ≡ true
+    → Whole (little_at 4 at bs) (at + 4) ≡ judge_at (four r t) at bs
 unfolding judge
-four-whole r t at bs h a = sym (word-step r t whole at bs h ∙ rw a)
+four_whole r t at bs h a = sym (word_step r t whole at bs h ∙ rw a)
 
 -- the number of four bytes that are there, by the bytes
-pub little-there : (at : ℕ) (bs : List ℕ) → at + 4 ≤ length bs
-    → fromLittle (get_or bs at 0 ∷ get_or bs (at + 1) 0 ∷ get_or bs (at + 2) 0 ∷ get_or bs (at + 3) 0 ∷ []) ≡ littleAt 4 at bs
-little-there at bs h = rw (drop-four bs at h)
+pub little_there : (at : ℕ) (bs : List ℕ) → at + 4 ≤ length bs
+    → from_little (get_or bs at 0 ∷ get_or bs (at + 1) 0 ∷ get_or bs (at + 2) 0 ∷ get_or bs (at + 3) 0 ∷ []) ≡ little_at 4 at bs
+little_there at bs h = rw (drop_four bs at h)
 
 -- the free field as its bytes give it
-pub number-there : (at : ℕ) (bs : List ℕ) {v : ℕ} → at + 4 ≤ length bs
-    → v ≡ fromLittle (get_or bs at 0 ∷ get_or bs (at + 1) 0 ∷ get_or bs (at + 2) 0 ∷ get_or bs (at + 3) 0 ∷ [])
-    → Whole v (at + 4) ≡ judgeAt (four (always 0) any) at bs
-number-there at bs h e = ap (λ (v : ℕ). Whole v (at + 4)) (e ∙ little-there at bs h) ∙ four-whole (always 0) any at bs h refl
+pub number_there : (at : ℕ) (bs : List ℕ) {v : ℕ} → at + 4 ≤ length bs
+    → v ≡ from_little (get_or bs at 0 ∷ get_or bs (at + 1) 0 ∷ get_or bs (at + 2) 0 ∷ get_or bs (at + 3) 0 ∷ [])
+    → Whole v (at + 4) ≡ judge_at (four (always 0) any) at bs
+number_there at bs h e = ap (λ (v : ℕ). Whole v (at + 4)) (e ∙ little_there at bs h) ∙ four_whole (always 0) any at bs h refl
 
 -- a field with a test is the free field, and then the test
 pub tested : (r : ℕ → ℕ) (t : ℕ → Bool) (at : ℕ) (bs : List ℕ)
-    → judgeAt (four r t) at bs ≡ after (judgeAt (four (always 0) any) at bs) (λ v e. cond (t v) (Whole v e) (Bad (r v)))
+    → judge_at (four r t) at bs ≡ after (judge_at (four (always 0) any) at bs) (λ v e. cond (t v) (Whole v e) (Bad (r v)))
 unfolding judge
 tested r t at bs = go (dec_le (at + 4) (length bs))
   where
     go : Dec (at + 4 ≤ length bs)
-        → judgeAt (four r t) at bs ≡ after (judgeAt (four (always 0) any) at bs) (λ v e. cond (t v) (Whole v e) (Bad (r v)))
+        → judge_at (four r t) at bs ≡ after (judge_at (four (always 0) any) at bs) (λ v e. cond (t v) (Whole v e) (Bad (r v)))
     go (yes l) =
-        word-step r t whole at bs l ∙ ap (λ (j : Judgement). after j (λ v e. cond (t v) (Whole v e) (Bad (r v))))
-        (four-whole (always 0) any at bs l refl)
+        word_step r t whole at bs l ∙ ap (λ (j : Judgement). after j (λ v e. cond (t v) (Whole v e) (Bad (r v))))
+        (four_whole (always 0) any at bs l refl)
     go (no n) =
-        word-ends r t whole at bs (omega arith)
-        ∙ ap (λ (j : Judgement). after j (λ v e. cond (t v) (Whole v e) (Bad (r v)))) (four-waits (always 0) any at bs (omega arith))
+        word_ends r t whole at bs (omega arith)
+        ∙ ap (λ (j : Judgement). after j (λ v e. cond (t v) (Whole v e) (Bad (r v)))) (four_waits (always 0) any at bs (omega arith))
 
 -- the field's bytes are not there
-pub unread : (r : ℕ → ℕ) (t : ℕ → Bool) (at : ℕ) (bs : List ℕ) {j : Judgement} → j ≡ judgeAt (four (always 0) any) at bs → Halted j
-    → j ≡ judgeAt (four r t) at bs
+pub unread : (r : ℕ → ℕ) (t : ℕ → Bool) (at : ℕ) (bs : List ℕ) {j : Judgement} → j ≡ judge_at (four (always 0) any) at bs → Halted j
+    → j ≡ judge_at (four r t) at bs
 unread r t at bs {j} a o =
     sym (tested r t at bs ∙ ap (λ (j : Judgement). after j (λ v e. cond (t v) (Whole v e) (Bad (r v)))) (sym a)
     ∙ halted j (λ v e. cond (t v) (Whole v e) (Bad (r v))) o)
 
-module _ (r : ℕ → ℕ) (t : ℕ → Bool) (at : ℕ) (bs : List ℕ) {j : Judgement} {v e : ℕ} (a : j ≡ judgeAt (four (always 0) any) at bs)
+module _ (r : ℕ → ℕ) (t : ℕ → Bool) (at : ℕ) (bs : List ℕ) {j : Judgement} {v e : ℕ} (a : j ≡ judge_at (four (always 0) any) at bs)
     (b : j ≡ Whole v e) where
-  read-then : judgeAt (four r t) at bs ≡ cond (t v) (Whole v e) (Bad (r v))
-  read-then = tested r t at bs ∙ ap (λ (j : Judgement). after j (λ v e. cond (t v) (Whole v e) (Bad (r v)))) (sym a ∙ b)
+  read_then : judge_at (four r t) at bs ≡ cond (t v) (Whole v e) (Bad (r v))
+  read_then = tested r t at bs ∙ ap (λ (j : Judgement). after j (λ v e. cond (t v) (Whole v e) (Bad (r v)))) (sym a ∙ b)
 
   -- the field is there and passes
-  pub taken : t v ≡ true → Whole v e ≡ judgeAt (four r t) at bs
-  taken h = sym (read-then ∙ rw h)
+  pub taken : t v ≡ true → Whole v e ≡ judge_at (four r t) at bs
+  taken h = sym (read_then ∙ rw h)
 
   -- the field is there and is refused
-  pub refused : t v ≡ false → Bad (r v) ≡ judgeAt (four r t) at bs
-  refused h = sym (read-then ∙ rw h)
+  pub refused : t v ≡ false → Bad (r v) ≡ judge_at (four r t) at bs
+  refused h = sym (read_then ∙ rw h)
 
 -- -- Free bytes
 
@@ -205,131 +205,131 @@ free_all zero at xs h = ap (Whole 0) (omega arith)
 free_all (suc n) at [] h = absurd (omega arith)
 free_all (suc n) at (b ∷ xs) h = ap (Whole 0) (omega arith) ∙ free_all n (at + 1) xs (omega arith)
 
-free-few : (n : ℕ) (at : ℕ) (xs : List ℕ) → length xs < n → Waiting ≡ judge (free n) at xs
+free_few : (n : ℕ) (at : ℕ) (xs : List ℕ) → length xs < n → Waiting ≡ judge (free n) at xs
 unfolding judge free
-free-few zero at xs h = absurd (omega arith)
-free-few (suc n) at [] h = refl
-free-few (suc n) at (b ∷ xs) h = free-few n (at + 1) xs (omega arith)
+free_few zero at xs h = absurd (omega arith)
+free_few (suc n) at [] h = refl
+free_few (suc n) at (b ∷ xs) h = free_few n (at + 1) xs (omega arith)
 
 -- n bytes that are there
-pub free-whole : (n at : ℕ) (bs : List ℕ) → at + n ≤ length bs → Whole 0 (at + n) ≡ judgeAt (free n) at bs
-free-whole n at bs h = free_all n at (drop at bs) (simp length-drop (omega arith))
+pub free_whole : (n at : ℕ) (bs : List ℕ) → at + n ≤ length bs → Whole 0 (at + n) ≡ judge_at (free n) at bs
+free_whole n at bs h = free_all n at (drop at bs) (simp length-drop (omega arith))
 
 -- n bytes of which the last is not there
-pub free-waits : (n at : ℕ) (bs : List ℕ) → 0 < n → length bs < at + n → Waiting ≡ judgeAt (free n) at bs
-free-waits n at bs p h = free-few n at (drop at bs) (simp length-drop (omega arith))
+pub free_waits : (n at : ℕ) (bs : List ℕ) → 0 < n → length bs < at + n → Waiting ≡ judge_at (free n) at bs
+free_waits n at bs p h = free_few n at (drop at bs) (simp length-drop (omega arith))
 
 -- no byte at all, at any offset
-pub free-none : (n at : ℕ) (bs : List ℕ) → n ≡ 0 → Whole 0 at ≡ judgeAt (free n) at bs
+pub free_none : (n at : ℕ) (bs : List ℕ) → n ≡ 0 → Whole 0 at ≡ judge_at (free n) at bs
 unfolding judge free
-free-none n at bs h = rw h
+free_none n at bs h = rw h
 
-frees-step : (n at : ℕ) (xs : List ℕ) → ((ys : List ℕ) → judge (frees n) (at + 4) ys ≡ judge (free (4 * n)) (at + 4) ys)
+frees_step : (n at : ℕ) (xs : List ℕ) → ((ys : List ℕ) → judge (frees n) (at + 4) ys ≡ judge (free (4 * n)) (at + 4) ys)
     → judge (frees (suc n)) at xs ≡ judge (free (suc (suc (suc (suc (4 * n)))))) at xs
 unfolding judge free frees
-frees-step n at [] s = refl
-frees-step n at (a ∷ []) s = refl
-frees-step n at (a ∷ b ∷ []) s = refl
-frees-step n at (a ∷ b ∷ c ∷ []) s = refl
-frees-step n at (a ∷ b ∷ c ∷ d ∷ xs) s = s xs ∙ ap (λ (i : ℕ). judge (free (4 * n)) i xs) f
+frees_step n at [] s = refl
+frees_step n at (a ∷ []) s = refl
+frees_step n at (a ∷ b ∷ []) s = refl
+frees_step n at (a ∷ b ∷ c ∷ []) s = refl
+frees_step n at (a ∷ b ∷ c ∷ d ∷ xs) s = s xs ∙ ap (λ (i : ℕ). judge (free (4 * n)) i xs) f
   where
     f : at + 4 ≡ at + 1 + 1 + 1 + 1
     f = omega arith
 
 -- four free bytes at a time
-pub frees-free : (n at : ℕ) (xs : List ℕ) → judge (frees n) at xs ≡ judge (free (4 * n)) at xs
+pub frees_free : (n at : ℕ) (xs : List ℕ) → judge (frees n) at xs ≡ judge (free (4 * n)) at xs
 unfolding judge free frees
-frees-free zero at xs = refl
-frees-free (suc n) at xs = frees-step n at xs (frees-free n (at + 4)) ∙ ap (λ (m : ℕ). judge (free m) at xs) e
+frees_free zero at xs = refl
+frees_free (suc n) at xs = frees_step n at xs (frees_free n (at + 4)) ∙ ap (λ (m : ℕ). judge (free m) at xs) e
   where
     e : suc (suc (suc (suc (4 * n)))) ≡ 4 * suc n
     e = omega arith
 
 -- n fields that are there
-pub frees-whole : (n at : ℕ) (bs : List ℕ) → at + 4 * n ≤ length bs → Whole 0 (at + 4 * n) ≡ judgeAt (frees n) at bs
-frees-whole n at bs h = free-whole (4 * n) at bs h ∙ sym (frees-free n at (drop at bs))
+pub frees_whole : (n at : ℕ) (bs : List ℕ) → at + 4 * n ≤ length bs → Whole 0 (at + 4 * n) ≡ judge_at (frees n) at bs
+frees_whole n at bs h = free_whole (4 * n) at bs h ∙ sym (frees_free n at (drop at bs))
 
 -- -- The given bytes
 
 module _ (r : ℕ) (ms : List ℕ) (i at : ℕ) (bs : List ℕ) where
   -- the next byte is as given
-  pub marker-hit : i < length ms → at < length bs → get_or bs at 0 ≡ get_or ms i 0
-      → judgeAt (marker r (drop i ms)) at bs ≡ judgeAt (marker r (drop (i + 1) ms)) (at + 1) bs
+  pub marker_hit : i < length ms → at < length bs → get_or bs at 0 ≡ get_or ms i 0
+      → judge_at (marker r (drop i ms)) at bs ≡ judge_at (marker r (drop (i + 1) ms)) (at + 1) bs
   unfolding judge marker
-  marker-hit h l e = rw (drop-one ms i h, drop-one bs at l, eq-eqb (get_or bs at 0) (get_or ms i 0) e)
+  marker_hit h l e = rw (drop_one ms i h, drop_one bs at l, eq-eqb (get_or bs at 0) (get_or ms i 0) e)
 
   -- the next byte is another
-  pub marker-miss : i < length ms → at < length bs → (get_or bs at 0 ≡ get_or ms i 0 → ⊥) → Bad r ≡ judgeAt (marker r (drop i ms)) at bs
+  pub marker_miss : i < length ms → at < length bs → (get_or bs at 0 ≡ get_or ms i 0 → ⊥) → Bad r ≡ judge_at (marker r (drop i ms)) at bs
   unfolding judge marker
-  marker-miss h l e = rw (drop-one ms i h, drop-one bs at l, ne_eqb (get_or bs at 0) (get_or ms i 0) e)
+  marker_miss h l e = rw (drop_one ms i h, drop_one bs at l, ne_eqb (get_or bs at 0) (get_or ms i 0) e)
 
   -- the next byte is not there
-  pub marker-ends : i < length ms → length bs ≤ at → Waiting ≡ judgeAt (marker r (drop i ms)) at bs
+  pub marker_ends : i < length ms → length bs ≤ at → Waiting ≡ judge_at (marker r (drop i ms)) at bs
   unfolding judge marker
-  marker-ends h l = rw (drop-one ms i h, drop_of_length-le bs {i = at} l)
+  marker_ends h l = rw (drop_one ms i h, drop_of_length-le bs {i = at} l)
 
   -- all of them have been met
-  pub marker-over : length ms ≤ i → Whole 0 at ≡ judgeAt (marker r (drop i ms)) at bs
+  pub marker_over : length ms ≤ i → Whole 0 at ≡ judge_at (marker r (drop i ms)) at bs
   unfolding judge marker
-  marker-over h = rw (drop_of_length-le ms {i = i} h)
+  marker_over h = rw (drop_of_length-le ms {i = i} h)
 
 -- -- Back from a whole piece
 
 -- two whole pieces
-pub seq-inverse : (p : Form) (h : ℕ → Form) (at : ℕ) (bs : List ℕ) (v e : ℕ) → judgeAt (p >>= h) at bs ≡ Whole v e
-    → (u : ℕ) × (d : ℕ) × (judgeAt p at bs ≡ Whole u d) × (judgeAt (h u) d bs ≡ Whole v e)
-seq-inverse p h at bs v e w = go (judgeAt p at bs) refl (sym (seq p h at bs) ∙ w)
+pub seq_inverse : (p : Form) (h : ℕ → Form) (at : ℕ) (bs : List ℕ) (v e : ℕ) → judge_at (p >>= h) at bs ≡ Whole v e
+    → (u : ℕ) × (d : ℕ) × (judge_at p at bs ≡ Whole u d) × (judge_at (h u) d bs ≡ Whole v e)
+seq_inverse p h at bs v e w = go (judge_at p at bs) refl (sym (seq p h at bs) ∙ w)
   where
-    go : (j : Judgement) → judgeAt p at bs ≡ j → after j (λ v e. judgeAt (h v) e bs) ≡ Whole v e
-        → (u : ℕ) × (d : ℕ) × (judgeAt p at bs ≡ Whole u d) × (judgeAt (h u) d bs ≡ Whole v e)
+    go : (j : Judgement) → judge_at p at bs ≡ j → after j (λ v e. judge_at (h v) e bs) ≡ Whole v e
+        → (u : ℕ) × (d : ℕ) × (judge_at p at bs ≡ Whole u d) × (judge_at (h u) d bs ≡ Whole v e)
     go (Whole u d) a b = (u, d, a, b)
     go (Bad r) a b = let z : ◌≡◌ {A = ℕ} 0 1 = cc in absurd (omega arith)
     go Waiting a b = let z : ◌≡◌ {A = ℕ} 0 1 = cc in absurd (omega arith)
 
 -- a four-byte field: its bytes are there, its number passes
-pub four-inverse : (r : ℕ → ℕ) (t : ℕ → Bool) (at : ℕ) (bs : List ℕ) (v e : ℕ) → judgeAt (four r t) at bs ≡ Whole v e
-    → (v ≡ littleAt 4 at bs) × (e ≡ at + 4) × (t v ≡ true) × (at + 4 ≤ length bs)
+pub four_inverse : (r : ℕ → ℕ) (t : ℕ → Bool) (at : ℕ) (bs : List ℕ) (v e : ℕ) → judge_at (four r t) at bs ≡ Whole v e
+    → (v ≡ little_at 4 at bs) × (e ≡ at + 4) × (t v ≡ true) × (at + 4 ≤ length bs)
 unfolding judge
-four-inverse r t at bs v e w = go (dec_le (at + 4) (length bs))
+four_inverse r t at bs v e w = go (dec_le (at + 4) (length bs))
   where
-    passed : (u : Bool) → t (littleAt 4 at bs) ≡ u → cond u (Whole (littleAt 4 at bs) (at + 4)) (Bad (r (littleAt 4 at bs))) ≡ Whole v e
-        → (v ≡ littleAt 4 at bs) × (e ≡ at + 4) × (t v ≡ true)
-    passed true a b = let x : v ≡ littleAt 4 at bs = cc in (x, cc, ap t x ∙ a)
+    passed : (u : Bool) → t (little_at 4 at bs) ≡ u → cond u (Whole (little_at 4 at bs) (at + 4)) (Bad (r (little_at 4 at bs))) ≡ Whole v e
+        → (v ≡ little_at 4 at bs) × (e ≡ at + 4) × (t v ≡ true)
+    passed true a b = let x : v ≡ little_at 4 at bs = cc in (x, cc, ap t x ∙ a)
     passed false a b = let z : ◌≡◌ {A = ℕ} 0 1 = cc in absurd (omega arith)
 
-    go : Dec (at + 4 ≤ length bs) → (v ≡ littleAt 4 at bs) × (e ≡ at + 4) × (t v ≡ true) × (at + 4 ≤ length bs)
-    go (yes l) = let g = passed (t (littleAt 4 at bs)) refl (sym (word-step r t whole at bs l) ∙ w) in (g.0, g.1, g.2, l)
-    go (no n) = let h : Waiting ≡ Whole v e = four-waits r t at bs (omega arith) ∙ w in let z : ◌≡◌ {A = ℕ} 0 1 = cc in absurd (omega arith)
+    go : Dec (at + 4 ≤ length bs) → (v ≡ little_at 4 at bs) × (e ≡ at + 4) × (t v ≡ true) × (at + 4 ≤ length bs)
+    go (yes l) = let g = passed (t (little_at 4 at bs)) refl (sym (word_step r t whole at bs l) ∙ w) in (g.0, g.1, g.2, l)
+    go (no n) = let h : Waiting ≡ Whole v e = four_waits r t at bs (omega arith) ∙ w in let z : ◌≡◌ {A = ℕ} 0 1 = cc in absurd (omega arith)
 
 -- n free bytes: they are there, unless n is 0
-pub free-inverse : (n at : ℕ) (bs : List ℕ) (v e : ℕ) → judgeAt (free n) at bs ≡ Whole v e
+pub free_inverse : (n at : ℕ) (bs : List ℕ) (v e : ℕ) → judge_at (free n) at bs ≡ Whole v e
     → (v ≡ 0) × (e ≡ at + n) × (at ≤ length bs → at + n ≤ length bs)
 unfolding judge free
-free-inverse zero at bs v e w = (cc, omega (arith, same), λ h. omega arith)
+free_inverse zero at bs v e w = (cc, omega (arith, same), λ h. omega arith)
   where
     same : at ≡ e
     same = cc
-free-inverse (suc n) at bs v e w = go (dec_le (at + suc n) (length bs))
+free_inverse (suc n) at bs v e w = go (dec_le (at + suc n) (length bs))
   where
     go : Dec (at + suc n ≤ length bs) → (v ≡ 0) × (e ≡ at + suc n) × (at ≤ length bs → at + suc n ≤ length bs)
-    go (yes l) = let h : Whole 0 (at + suc n) ≡ Whole v e = free-whole (suc n) at bs l ∙ w in (cc, cc, λ _. l)
-    go (no m) = let h : Waiting ≡ Whole v e = free-waits (suc n) at bs (omega arith) (omega arith) ∙ w in let z : ◌≡◌ {A = ℕ} 0 1 = cc in
+    go (yes l) = let h : Whole 0 (at + suc n) ≡ Whole v e = free_whole (suc n) at bs l ∙ w in (cc, cc, λ _. l)
+    go (no m) = let h : Waiting ≡ Whole v e = free_waits (suc n) at bs (omega arith) (omega arith) ∙ w in let z : ◌≡◌ {A = ℕ} 0 1 = cc in
         absurd (omega arith)
 
 -- n free four-byte fields: they are there, unless n is 0
-pub frees-inverse : (n at : ℕ) (bs : List ℕ) (v e : ℕ) → judgeAt (frees n) at bs ≡ Whole v e
+pub frees_inverse : (n at : ℕ) (bs : List ℕ) (v e : ℕ) → judge_at (frees n) at bs ≡ Whole v e
     → (v ≡ 0) × (e ≡ at + 4 * n) × (at ≤ length bs → at + 4 * n ≤ length bs)
-frees-inverse n at bs v e w = free-inverse (4 * n) at bs v e (sym (frees-free n at (drop at bs)) ∙ w)
+frees_inverse n at bs v e w = free_inverse (4 * n) at bs v e (sym (frees_free n at (drop at bs)) ∙ w)
 
-marker-read : (r : ℕ) (ms : List ℕ) (at : ℕ) (xs : List ℕ) (v e : ℕ) → judge (marker r ms) at xs ≡ Whole v e
+marker_read : (r : ℕ) (ms : List ℕ) (at : ℕ) (xs : List ℕ) (v e : ℕ) → judge (marker r ms) at xs ≡ Whole v e
     → (v ≡ 0) × (e ≡ at + length ms) × (take (length ms) xs ≡ ms) × (length ms ≤ length xs)
 unfolding judge marker
-marker-read r [] at xs v e w = (cc, omega (arith, same), refl, omega arith)
+marker_read r [] at xs v e w = (cc, omega (arith, same), refl, omega arith)
   where
     same : at ≡ e
     same = cc
-marker-read r (m ∷ ms) at [] v e w = let z : ◌≡◌ {A = ℕ} 0 1 = cc in absurd (omega arith)
-marker-read r (m ∷ ms) at (b ∷ xs) v e w = go (eqb b m) refl w (marker-read r ms (at + 1) xs v e)
+marker_read r (m ∷ ms) at [] v e w = let z : ◌≡◌ {A = ℕ} 0 1 = cc in absurd (omega arith)
+marker_read r (m ∷ ms) at (b ∷ xs) v e w = go (eqb b m) refl w (marker_read r ms (at + 1) xs v e)
   where
     go : (u : Bool) → eqb b m ≡ u → cond u (judge (marker r ms) (at + 1) xs) (Bad r) ≡ Whole v e
         → (judge (marker r ms) (at + 1) xs ≡ Whole v e
@@ -339,27 +339,27 @@ marker-read r (m ∷ ms) at (b ∷ xs) v e w = go (eqb b m) refl w (marker-read 
     go false a j s = let z : ◌≡◌ {A = ℕ} 0 1 = cc in absurd (omega arith)
 
 -- the given bytes: they are there
-pub marker-inverse : (r : ℕ) (ms : List ℕ) (at : ℕ) (bs : List ℕ) (v e : ℕ) → judgeAt (marker r ms) at bs ≡ Whole v e
+pub marker_inverse : (r : ℕ) (ms : List ℕ) (at : ℕ) (bs : List ℕ) (v e : ℕ) → judge_at (marker r ms) at bs ≡ Whole v e
     → (v ≡ 0) × (e ≡ at + length ms) × (take (length ms) (drop at bs) ≡ ms) × (length ms ≤ length (drop at bs))
-marker-inverse r ms at bs v e w = marker-read r ms at (drop at bs) v e w
+marker_inverse r ms at bs v e w = marker_read r ms at (drop at bs) v e w
 
-marker-met : (r : ℕ) (ms : List ℕ) (at : ℕ) (xs : List ℕ) → take (length ms) xs ≡ ms → Whole 0 (at + length ms) ≡ judge (marker r ms) at xs
+marker_met : (r : ℕ) (ms : List ℕ) (at : ℕ) (xs : List ℕ) → take (length ms) xs ≡ ms → Whole 0 (at + length ms) ≡ judge (marker r ms) at xs
 unfolding judge marker
-marker-met r [] at xs h = ap (Whole 0) (omega arith)
-marker-met r (m ∷ ms) at [] h = let z : ◌≡◌ {A = ℕ} 0 1 = cc in absurd (omega arith)
-marker-met r (m ∷ ms) at (b ∷ xs) h = ap (Whole 0) (omega arith) ∙ marker-met r ms (at + 1) xs (cc) ∙ rw (eq-eqb b m (cc))
+marker_met r [] at xs h = ap (Whole 0) (omega arith)
+marker_met r (m ∷ ms) at [] h = let z : ◌≡◌ {A = ℕ} 0 1 = cc in absurd (omega arith)
+marker_met r (m ∷ ms) at (b ∷ xs) h = ap (Whole 0) (omega arith) ∙ marker_met r ms (at + 1) xs (cc) ∙ rw (eq-eqb b m (cc))
 
 -- the given bytes, where they are there
-pub marker-whole : (r : ℕ) (ms : List ℕ) (at : ℕ) (bs : List ℕ) → take (length ms) (drop at bs) ≡ ms
-    → Whole 0 (at + length ms) ≡ judgeAt (marker r ms) at bs
-marker-whole r ms at bs h = marker-met r ms at (drop at bs) h
+pub marker_whole : (r : ℕ) (ms : List ℕ) (at : ℕ) (bs : List ℕ) → take (length ms) (drop at bs) ≡ ms
+    → Whole 0 (at + length ms) ≡ judge_at (marker r ms) at bs
+marker_whole r ms at bs h = marker_met r ms at (drop at bs) h
 
-marker-missed : (r : ℕ) (ms : List ℕ) (at : ℕ) (xs : List ℕ) → length ms ≤ length xs → (take (length ms) xs ≡ ms → ⊥)
+marker_missed : (r : ℕ) (ms : List ℕ) (at : ℕ) (xs : List ℕ) → length ms ≤ length xs → (take (length ms) xs ≡ ms → ⊥)
     → Bad r ≡ judge (marker r ms) at xs
 unfolding judge marker
-marker-missed r [] at xs h n = absurd (n refl)
-marker-missed r (m ∷ ms) at [] h n = absurd (omega arith)
-marker-missed r (m ∷ ms) at (b ∷ xs) h n = go (eqb b m) refl (λ f. marker-missed r ms (at + 1) xs (omega arith) f)
+marker_missed r [] at xs h n = absurd (n refl)
+marker_missed r (m ∷ ms) at [] h n = absurd (omega arith)
+marker_missed r (m ∷ ms) at (b ∷ xs) h n = go (eqb b m) refl (λ f. marker_missed r ms (at + 1) xs (omega arith) f)
   where
     same : b ≡ m → take (length ms) xs ≡ ms → b ∷ take (length ms) xs ≡ m ∷ ms
     same x e = cc
@@ -370,6 +370,6 @@ marker-missed r (m ∷ ms) at (b ∷ xs) h n = go (eqb b m) refl (λ f. marker-m
     go false a s = rw a
 
 -- other bytes than the given ones, as many
-pub marker-other : (r : ℕ) (ms : List ℕ) (at : ℕ) (bs : List ℕ) → length ms ≤ length (drop at bs) → (take (length ms) (drop at bs) ≡ ms → ⊥)
-    → Bad r ≡ judgeAt (marker r ms) at bs
-marker-other r ms at bs h n = marker-missed r ms at (drop at bs) h n
+pub marker_other : (r : ℕ) (ms : List ℕ) (at : ℕ) (bs : List ℕ) → length ms ≤ length (drop at bs) → (take (length ms) (drop at bs) ≡ ms → ⊥)
+    → Bad r ≡ judge_at (marker r ms) at bs
+marker_other r ms at bs h n = marker_missed r ms at (drop at bs) h n

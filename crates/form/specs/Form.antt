@@ -1,7 +1,7 @@
 -- A wire's frames as a value of one small grammar type, and the one judgement of bytes by it (paper 01, "Judging a place").
 use Rattle.std.specs.Prelude.{Bool, true, cond, ◌≡◌, List, [], ◌∷◌, ◌++◌, ℕ, ◌+◌, ◌^◌, ◌<◌, ◌≤◌, length, take, drop}
 use Rattle.digits.specs.Bytes.{Bytes}
-use Rattle.digits.specs.LittleEndian.{fromLittle}
+use Rattle.digits.specs.LittleEndian.{from_little}
 use Rattle.form.specs.declared.Judgement.{Judgement}
 use Rattle.form.specs.declared.Judgement.TheVariants.{Whole, Bad, Waiting}
 
@@ -29,7 +29,7 @@ p >> q = p >>= (λ _. q)
 
 -- the number in four bytes, least significant first (paper 01, "mmWave")
 abbrev pub joined : ℕ → ℕ → ℕ → ℕ → ℕ
-joined a b c d = fromLittle (a ∷ b ∷ c ∷ d ∷ [])
+joined a b c d = from_little (a ∷ b ∷ c ∷ d ∷ [])
 
 -- -- The judgement
 
@@ -47,8 +47,8 @@ judge (word r t f) at (a ∷ b ∷ c ∷ []) = Waiting
 judge (word r t f) at (a ∷ b ∷ c ∷ d ∷ bs) = cond (t (joined a b c d)) (judge (f (joined a b c d)) (at + 4) bs) (Bad (r (joined a b c d)))
 
 -- the judgement of a piece that starts at offset at of the bytes
-abbrev pub judgeAt : Form → ℕ → List ℕ → Judgement
-judgeAt p at bs = judge p at (drop at bs)
+abbrev pub judge_at : Form → ℕ → List ℕ → Judgement
+judge_at p at bs = judge p at (drop at bs)
 
 -- -- The declarative reading
 

@@ -1,6 +1,6 @@
 // The judgement of bytes by a grammar, and the pieces that every wire's judgement is made of.
 ghost use Rattle.std.specs.Prelude.{◌≡◌};
-ghost use Rattle.form.specs.Numbers.{numbersOf, Judges};
+ghost use Rattle.form.specs.Numbers.{numbers_of, Judges};
 ghost use Rattle.form.specs.Pieces.{any, always, four, free, frees};
 
 // Paper 01, "Judging a place". Inside a grammar `Whole` carries a piece's value and the offset behind it.
@@ -34,7 +34,7 @@ pub struct JudgementNumbers {
 
 // The numbers of a judgement: those of `Whole(6, 8)` are state 1, kind 6, length 8 and otherwise 0.
 pub fn numbers_of(j: Judgement) -> JudgementNumbers
-    ensures { result ≡ numbersOf j }
+    ensures { result ≡ numbers_of j }
 {
     match j {
         Judgement::Whole(kind, size) => JudgementNumbers {

@@ -2,8 +2,8 @@
 // A slice is a pointer that is not null and a count; the numbers of each answer are those of paper 01.
 
 ghost use Rattle.std.specs.Prelude.{◌≡◌};
-ghost use Rattle.capture.specs.Dialects.{dialectOf};
-ghost use Rattle.capture.specs.Entries.{verdict, verdictNumbers};
+ghost use Rattle.capture.specs.Dialects.{dialect_of};
+ghost use Rattle.capture.specs.Entries.{verdict, verdict_numbers};
 ghost use Rattle.units.specs.Units.{centidegrees, millimetres};
 
 use capture::Verdict;
@@ -14,7 +14,7 @@ use units::Quantity;
 // With a refusal every other number is 0, and no state is.
 #[unsafe(no_mangle)]
 pub extern "C" fn vq_judge(dialect: u32, bytes: &[u8], offset: usize) -> JudgementNumbers
-    ensures { result ≡ verdictNumbers (verdict (dialectOf dialect) bytes.now offset) }
+    ensures { result ≡ verdict_numbers (verdict (dialect_of dialect) bytes.now offset) }
 {
     match capture_judge::judge_at(dialect, bytes, offset) {
         Verdict::Refused(number) => JudgementNumbers {

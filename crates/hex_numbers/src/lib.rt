@@ -1,7 +1,7 @@
 // Hex numbers in bytes, both ways.
 ghost use Rattle.std.specs.Prelude.{◌≡◌, ◌+◌, ◌≤◌, min, length};
-ghost use Rattle.digits.specs.Hex.{hexAt, hexDigits};
-ghost use Rattle.digits.specs.Stores.{storedWithin};
+ghost use Rattle.digits.specs.Hex.{hex_at, hex_digits};
+ghost use Rattle.digits.specs.Stores.{stored_within};
 
 use digits::{digit_of, glyph_of};
 
@@ -19,7 +19,7 @@ fn least(a: usize, b: usize) -> usize
 
 fn hex_from(s: &[u8], at: usize, n: usize) -> u32
     requires { (n ≤ 8) × (at + n ≤ length s.now) }
-    ensures { result ≡ hexAt n at s.now }
+    ensures { result ≡ hex_at n at s.now }
 {
     let mut v: u32 = 0;
     let mut i: usize = 0;
@@ -34,7 +34,7 @@ fn hex_from(s: &[u8], at: usize, n: usize) -> u32
 // The number of the n digits from an offset on, at most eight; of fewer where the bytes end before.
 // `hex_at(b"!R0102", 2, 4)` is 258.
 pub fn hex_at(s: &[u8], at: usize, n: usize) -> u32
-    ensures { result ≡ hexAt (min n 8) at s.now }
+    ensures { result ≡ hex_at (min n 8) at s.now }
 {
     if s.len() < at {
         return 0;
@@ -46,14 +46,14 @@ pub fn hex_at(s: &[u8], at: usize, n: usize) -> u32
 
 // The number of the digit at an offset; 0 where none is.
 pub fn digit_at(s: &[u8], at: usize) -> u8
-    ensures { result ≡ hexAt 1 at s.now }
+    ensures { result ≡ hex_at 1 at s.now }
 {
     hex_at(s, at, 1) as u8
 }
 
 // The number of the four digits from an offset on, of fewer where the bytes end before.
 pub fn number_at(s: &[u8], at: usize) -> u16
-    ensures { result ≡ hexAt 4 at s.now }
+    ensures { result ≡ hex_at 4 at s.now }
 {
     hex_at(s, at, 4) as u16
 }
@@ -61,7 +61,7 @@ pub fn number_at(s: &[u8], at: usize) -> u16
 // Lays the lowest n digits of a number over the buffer at an offset; changes nothing where they do not fit.
 // `put_hex(out, 2, 4, 258)` stores `0102`.
 pub fn put_hex(out: &mut [u8], at: usize, n: usize, v: u32)
-    ensures { out.new ≡ storedWithin out.old at (hexDigits n v) }
+    ensures { out.new ≡ stored_within out.old at (hex_digits n v) }
 {
     if out.len() < at {
         return;

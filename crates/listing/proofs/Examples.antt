@@ -8,12 +8,12 @@ use Rattle.reading.specs.Reading.{read}
 use Rattle.capture.specs.Dialects.{form_of}
 use Rattle.capture.specs.declared.Dialect.TheVariants.{Sirad}
 use Rattle.listing.specs.Decimal.{decimals, width, decimal}
-use Rattle.listing.specs.Lines.{field, fields, headerLine, row_line, row_lines, endLine}
-use Rattle.listing.specs.Listing.{closedReading, listed, listing}
-use Rattle.listing.specs.Example.{exampleInput, exampleOutput}
+use Rattle.listing.specs.Lines.{field, fields, header_line, row_line, row_lines, end_line}
+use Rattle.listing.specs.Listing.{closed_reading, listed, listing}
+use Rattle.listing.specs.Example.{example_input, example_output}
 
 -- paper 01's 25 bytes have paper 01's four lines
-pub example-listed : listing Sirad exampleInput ≡ exampleOutput
-unfolding listing listed closedReading headerLine row_lines row_line endLine fields field decimal decimals width read judge form_of sirad
+pub example_listed : listing Sirad example_input ≡ example_output
+unfolding listing listed closed_reading header_line row_lines row_line end_line fields field decimal decimals width read judge form_of sirad
     ◌>>=◌ body number digit row run characters
-example-listed = refl
+example_listed = refl

@@ -9,8 +9,8 @@ use lib.ListN.{length, take, length-append}
 use lib.Seq.{length-take-le}
 use Rattle.io.specs.Counts.{IsPrefixLen}
 use Rattle.digits.specs.Stores.{stored}
-use Rattle.digits.proofs.StoreLaws.{stored-nil, length-stored, then}
-use Rattle.listing.specs.Gather.{Gathers, Lent, inputAnswer}
+use Rattle.digits.proofs.StoreLaws.{stored_nil, length_stored, then}
+use Rattle.listing.specs.Gather.{Gathers, Lent, input_answer}
 use Rattle.listing.specs.Internal.{Puts, Appends, Within}
 use Rattle.listing.specs.declared.Input.{Input}
 use Rattle.listing.specs.declared.Input.TheVariants.{Read, Failed}
@@ -20,8 +20,8 @@ pub lent : {block after : List ℕ} → length after ≡ length block → Lent b
 lent {block} {after} e = record { held = after; leaves = refl; same_length = e }
 
 -- a read gives no more bytes than the block holds
-pub read-within : {r : Input} {n : ℕ} (block : List ℕ) → Within r block → r ≡ Read n → n ≤ length block
-read-within block w e = rw e at w
+pub read_within : {r : Input} {n : ℕ} (block : List ℕ) → Within r block → r ≡ Read n → n ≤ length block
+read_within block w e = rw e at w
 
 -- -- The loop
 
@@ -34,12 +34,12 @@ pub record Gathered (buffer : List ℕ) (size : ℕ) (after : List ℕ) : Type 0
 
 -- nothing yet
 pub gathered_none : (buffer : List ℕ) → Gathered buffer 0 buffer
-gathered_none buffer = record { input = []; counted = refl; fits = omega arith; leaves = sym (stored-nil buffer 0) }
+gathered_none buffer = record { input = []; counted = refl; fits = omega arith; leaves = sym (stored_nil buffer 0) }
 
 -- one more block
-pub gathered-more : {buffer l l' block : List ℕ} {size size' : ℕ} → Gathered buffer size l → Puts block l size size' l'
+pub gathered_more : {buffer l l' block : List ℕ} {size size' : ℕ} → Gathered buffer size l → Puts block l size size' l'
     → size' ≤ length buffer → Gathered buffer size' l'
-gathered-more {buffer} {l} {l'} {block} {size} {size'} g p h = record {
+gathered_more {buffer} {l} {l'} {block} {size} {size'} g p h = record {
   input = g.input ++ block;
   counted = omega (arith, length-append g.input block, g.counted, p.ends);
   fits = omega (arith, length-append g.input block, g.counted, p.ends);
@@ -61,8 +61,8 @@ appends {buffer} {block} {after} {size} {got} {n} {end} p l g r s f =
 
 module _ {block block' buffer after : List ℕ} {size : ℕ} (g : Gathered buffer size after) (e : length block' ≡ length block) where
   -- the input ends, or the buffer is full
-  pub gathers-all : 0 < length block → Gathers block buffer (Read size) block' after
-  gathers-all h = record {
+  pub gathers_all : 0 < length block → Gathers block buffer (Read size) block' after
+  gathers_all h = record {
     input = g.input;
     readable = true;
     answers = ap Read g.counted;
@@ -73,8 +73,8 @@ module _ {block block' buffer after : List ℕ} {size : ℕ} (g : Gathered buffe
   }
 
   -- a read failed
-  pub gathers-failed : Gathers block buffer Failed block' after
-  gathers-failed = record {
+  pub gathers_failed : Gathers block buffer Failed block' after
+  gathers_failed = record {
     input = g.input;
     readable = false;
     answers = refl;
@@ -88,14 +88,14 @@ module _ {block block' buffer after : List ℕ} {size : ℕ} (g : Gathered buffe
       distinct x = let z : ◌≡◌ {A = ℕ} 0 1 = cc in omega arith
 
 -- the bytes read are bytes of the buffer
-pub read-counts : {block block' buffer after : List ℕ} {r : Input} {size : ℕ} → Gathers block buffer r block' after
+pub read_counts : {block block' buffer after : List ℕ} {r : Input} {size : ℕ} → Gathers block buffer r block' after
     → r ≡ Read size → IsPrefixLen size after
-read-counts {block} {block'} {buffer} {after} {r} {size} g h =
-    let n : length after ≡ length buffer = ap length g.leaves ∙ length-stored buffer 0 g.input in
+read_counts {block} {block'} {buffer} {after} {r} {size} g h =
+    let n : length after ≡ length buffer = ap length g.leaves ∙ length_stored buffer 0 g.input in
     let m : size ≡ length g.input = counted g.readable (sym h ∙ g.answers) in
     let k : size ≤ length after = omega (arith, g.fits) in
     (k, sym (length-take-le size after k))
   where
-    counted : (t : Bool) → Read size ≡ inputAnswer t g.input → size ≡ length g.input
+    counted : (t : Bool) → Read size ≡ input_answer t g.input → size ≡ length g.input
     counted true e = cc
     counted false e = let z : ◌≡◌ {A = ℕ} 0 1 = cc in absurd (omega arith)

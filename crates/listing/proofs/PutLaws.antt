@@ -6,8 +6,8 @@ use native.Mathlib.Omega.{arith}
 use borrow.Author.Tests.{le-leb, lt-leb}
 use lib.ListN.{length, take, set, length-append}
 use lib.Seq.{length-take-le}
-use Rattle.digits.specs.Stores.{storedWithin}
-use Rattle.digits.proofs.StoreLaws.{stored_one, length-stored, then, within-fits, within-unfit}
+use Rattle.digits.specs.Stores.{stored_within}
+use Rattle.digits.proofs.StoreLaws.{stored_one, length_stored, then, within_fits, within_unfit}
 use Rattle.listing.specs.Internal.{Puts, Lays}
 
 -- two pieces: the first, then the second behind it
@@ -18,42 +18,42 @@ puts_then {xs} {ys} {l} {l'} {l''} {at} {m} {r} p q = record {
 }
 
 -- one byte
-pub puts-byte : (l : List ℕ) (at b : ℕ) → Puts (b ∷ []) l at (at + 1) (set l at b)
-puts-byte l at b = record { leaves = stored_one l at b; ends = refl }
+pub puts_byte : (l : List ℕ) (at b : ℕ) → Puts (b ∷ []) l at (at + 1) (set l at b)
+puts_byte l at b = record { leaves = stored_one l at b; ends = refl }
 
 -- the buffer keeps its length
-pub puts-length : {xs l l' : List ℕ} {at r : ℕ} → Puts xs l at r l' → length l' ≡ length l
-puts-length {xs} {l} {l'} {at} {r} p = ap length p.leaves ∙ length-stored l at xs
+pub puts_length : {xs l l' : List ℕ} {at r : ℕ} → Puts xs l at r l' → length l' ≡ length l
+puts_length {xs} {l} {l'} {at} {r} p = ap length p.leaves ∙ length_stored l at xs
 
 -- text that fits is stored
-pub puts-within : {xs l l' : List ℕ} {at : ℕ} → l' ≡ storedWithin l at xs → at + length xs ≤ length l → Puts xs l at (at + length xs) l'
-puts-within {xs} {l} {l'} {at} e h = record { leaves = e ∙ within-fits l at xs h; ends = refl }
+pub puts_within : {xs l l' : List ℕ} {at : ℕ} → l' ≡ stored_within l at xs → at + length xs ≤ length l → Puts xs l at (at + length xs) l'
+puts_within {xs} {l} {l'} {at} e h = record { leaves = e ∙ within_fits l at xs h; ends = refl }
 
 -- so are the first n bytes of a block
-pub puts-taken : (block l l' : List ℕ) (at n : ℕ) → l' ≡ storedWithin l at (take n block) → n ≤ length block → at + n ≤ length l
+pub puts_taken : (block l l' : List ℕ) (at n : ℕ) → l' ≡ stored_within l at (take n block) → n ≤ length block → at + n ≤ length l
     → Puts (take n block) l at (at + n) l'
-puts-taken block l l' at n e h k =
+puts_taken block l l' at n e h k =
     let s : length (take n block) ≡ n = length-take-le n block h in
-    record { leaves = e ∙ within-fits l at (take n block) (omega arith); ends = ap (λ (m : ℕ). at + m) (sym s) }
+    record { leaves = e ∙ within_fits l at (take n block) (omega arith); ends = ap (λ (m : ℕ). at + m) (sym s) }
 
 -- -- Text that is put only where it fits
 
-pub lays-puts : {text out after : List ℕ} {at end : ℕ} → Lays text out at end after → at + length text ≤ length out
+pub lays_puts : {text out after : List ℕ} {at end : ℕ} → Lays text out at end after → at + length text ≤ length out
     → Puts text out at end after
-lays-puts {text} {out} {after} {at} {end} l h = record {
-  leaves = l.leaves ∙ within-fits out at text h;
+lays_puts {text} {out} {after} {at} {end} l h = record {
+  leaves = l.leaves ∙ within_fits out at text h;
   ends = l.ends ∙ rw (le-leb (at + length text) (length out) h);
 }
 
-pub lays-fit : {text out after : List ℕ} {at end : ℕ} → Puts text out at end after → at + length text ≤ length out
+pub lays_fit : {text out after : List ℕ} {at end : ℕ} → Puts text out at end after → at + length text ≤ length out
     → Lays text out at end after
-lays-fit {text} {out} {after} {at} {end} p h = record {
-  leaves = p.leaves ∙ sym (within-fits out at text h);
+lays_fit {text} {out} {after} {at} {end} p h = record {
+  leaves = p.leaves ∙ sym (within_fits out at text h);
   ends = p.ends ∙ rw (le-leb (at + length text) (length out) h);
 }
 
-pub lays-unfit : (text out : List ℕ) (at : ℕ) → length out < at + length text → Lays text out at at out
-lays-unfit text out at h = record {
-  leaves = sym (within-unfit out at text h);
+pub lays_unfit : (text out : List ℕ) (at : ℕ) → length out < at + length text → Lays text out at at out
+lays_unfit text out at h = record {
+  leaves = sym (within_unfit out at text h);
   ends = rw (lt-leb (at + length text) (length out) h);
 }

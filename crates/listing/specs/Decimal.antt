@@ -28,9 +28,9 @@ unfoldable pub decimal : ℕ → List ℕ
 decimal v = decimals (width v) v
 
 -- the number that decimal digits give when v stands in front of them
-unfoldable pub tensFrom : ℕ → List ℕ → ℕ
-tensFrom v [] = v
-tensFrom v (b ∷ bs) = tensFrom (v * 10 + (b - 48)) bs
+unfoldable pub tens_from : ℕ → List ℕ → ℕ
+tens_from v [] = v
+tens_from v (b ∷ bs) = tens_from (v * 10 + (b - 48)) bs
 
 -- n digits hold v, and no fewer do
 abbrev pub Fewest : ℕ → ℕ → Type 0

@@ -11,16 +11,16 @@ pub record Lent (block after : List ℕ) : Type 0 where
   pub same_length : length held ≡ length block
 
 -- the answer for an input: its length, or that it can't be read to its end
-abbrev pub inputAnswer : Bool → List ℕ → Input
-inputAnswer true input = Read (length input)
-inputAnswer false input = Failed
+abbrev pub input_answer : Bool → List ℕ → Input
+input_answer true input = Read (length input)
+input_answer false input = Failed
 
 -- some input, and whether it could be read to its end, are the system's to choose; the input fits, lies in the buffer from its
 -- start on, and all bytes behind it stay; where a read failed, it is what came before; with an empty block no read succeeds
 pub record Gathers (block buffer : List ℕ) (r : Input) (block' after : List ℕ) : Type 0 where
   pub input : List ℕ
   pub readable : Bool
-  pub answers : r ≡ inputAnswer readable input
+  pub answers : r ≡ input_answer readable input
   pub fits : length input ≤ length buffer
   pub leaves : after ≡ stored buffer 0 input
   pub blocked : readable ≡ true → 0 < length block

@@ -1,16 +1,16 @@
 -- What only the code's own contracts need; no rule of the papers is stated here.
 use Rattle.std.specs.Prelude.{cond, ◌≡◌, List, [], ◌++◌, ℕ, zero, suc, ◌+◌, ◌-◌, ◌*◌, ◌<◌, ◌≤◌, leb, ltb, length, take, drop, get_or}
-use Rattle.digits.specs.Stores.{stored, storedWithin}
+use Rattle.digits.specs.Stores.{stored, stored_within}
 use Rattle.reading.specs.declared.Row.{Row}
-use Rattle.listing.specs.Lines.{headerLine, row_line, endLine}
+use Rattle.listing.specs.Lines.{header_line, row_line, end_line}
 use Rattle.listing.specs.declared.Input.{Input}
 use Rattle.listing.specs.declared.Input.TheVariants.{Read, Failed}
 
 -- -- Buffers
 
 -- a buffer of so many bytes holds every listing: 8,192 lines of at most 24 bytes, the first line of 18 and the last one of at most 26
-abbrev pub textRoom : ℕ
-textRoom = 196652
+abbrev pub text_room : ℕ
+text_room = 196652
 
 -- -- Text at an offset
 
@@ -21,7 +21,7 @@ pub record Puts (text out : List ℕ) (at end : ℕ) (after : List ℕ) : Type 0
 
 -- the same where the text fits; else the buffer is unchanged, and the answer is the offset itself
 pub record Lays (text out : List ℕ) (at end : ℕ) (after : List ℕ) : Type 0 where
-  pub leaves : after ≡ storedWithin out at text
+  pub leaves : after ≡ stored_within out at text
   pub ends : end ≡ cond (leb (at + length text) (length out)) (at + length text) at
 
 -- -- Rows in a table
@@ -31,21 +31,21 @@ abbrev pub first_of : List ℕ → Row
 first_of table = record { offset = get_or table 0 0; size = get_or table 1 0; kind = get_or table 2 0 }
 
 -- the lines of the first n rows of a table
-unfoldable pub tableLines : ℕ → List ℕ → List ℕ
-tableLines zero table = []
-tableLines (suc n) table = row_line (first_of table) ++ tableLines n (drop 3 table)
+unfoldable pub table_lines : ℕ → List ℕ → List ℕ
+table_lines zero table = []
+table_lines (suc n) table = row_line (first_of table) ++ table_lines n (drop 3 table)
 
 -- the text of the first n rows of a table: the first line, the rows' lines, the last line
-unfoldable pub tableText : ℕ → List ℕ → ℕ → ℕ → List ℕ
-tableText n table size skipped = headerLine ++ (tableLines n table ++ endLine size skipped)
+unfoldable pub table_text : ℕ → List ℕ → ℕ → ℕ → List ℕ
+table_text n table size skipped = header_line ++ (table_lines n table ++ end_line size skipped)
 
 -- the number of rows asked for, where the table holds them and they are at most 8,192; else none
 unfoldable pub held_rows : ℕ → List ℕ → ℕ
 held_rows rows table = cond (ltb 8192 rows) 0 (cond (ltb (length table) (3 * rows)) 0 rows)
 
 -- the text of these rows
-abbrev pub heldText : ℕ → List ℕ → ℕ → ℕ → List ℕ
-heldText rows table size skipped = tableText (held_rows rows table) table size skipped
+abbrev pub held_text : ℕ → List ℕ → ℕ → ℕ → List ℕ
+held_text rows table size skipped = table_text (held_rows rows table) table size skipped
 
 -- -- Standard input
 

@@ -8,8 +8,8 @@ abbrev pub tab : ℕ
 tab = 9
 
 -- the byte at the end of a line
-abbrev pub lineFeed : ℕ
-lineFeed = 10
+abbrev pub line_feed : ℕ
+line_feed = 10
 
 -- the letter of a kind: R, P, C, T, U, E (paper 01, "SiRad") and M ("The listing"); `?` for a number that is no kind
 abbrev pub letter : ℕ → ℕ
@@ -24,11 +24,11 @@ field v = tab ∷ decimal v
 
 -- two numbers to the end of the line
 unfoldable pub fields : ℕ → ℕ → List ℕ
-fields a b = field a ++ (field b ++ (lineFeed ∷ []))
+fields a b = field a ++ (field b ++ (line_feed ∷ []))
 
 -- the first line: `kind`, tab, `place`, tab, `length`
-unfoldable pub headerLine : List ℕ
-headerLine = 107 ∷ 105 ∷ 110 ∷ 100 ∷ tab ∷ 112 ∷ 108 ∷ 97 ∷ 99 ∷ 101 ∷ tab ∷ 108 ∷ 101 ∷ 110 ∷ 103 ∷ 116 ∷ 104 ∷ lineFeed ∷ []
+unfoldable pub header_line : List ℕ
+header_line = 107 ∷ 105 ∷ 110 ∷ 100 ∷ tab ∷ 112 ∷ 108 ∷ 97 ∷ 99 ∷ 101 ∷ tab ∷ 108 ∷ 101 ∷ 110 ∷ 103 ∷ 116 ∷ 104 ∷ line_feed ∷ []
 
 -- the line of a row: letter, place, length
 unfoldable pub row_line : Row → List ℕ
@@ -40,9 +40,9 @@ row_lines [] = []
 row_lines (w ∷ ws) = row_line w ++ row_lines ws
 
 -- the last line: `end`, the length of the input, the skipped bytes
-unfoldable pub endLine : ℕ → ℕ → List ℕ
-endLine size skipped = (101 ∷ 110 ∷ 100 ∷ []) ++ fields size skipped
+unfoldable pub end_line : ℕ → ℕ → List ℕ
+end_line size skipped = (101 ∷ 110 ∷ 100 ∷ []) ++ fields size skipped
 
 -- the whole output for an input that is too long: `refused`, tab, `4`
-unfoldable pub refusedLine : List ℕ
-refusedLine = 114 ∷ 101 ∷ 102 ∷ 117 ∷ 115 ∷ 101 ∷ 100 ∷ tab ∷ 52 ∷ lineFeed ∷ []
+unfoldable pub refused_line : List ℕ
+refused_line = 114 ∷ 101 ∷ 102 ∷ 117 ∷ 115 ∷ 101 ∷ 100 ∷ tab ∷ 52 ∷ line_feed ∷ []

@@ -3,7 +3,7 @@
 ghost use Rattle.std.specs.Prelude.{◌≡◌, ◌+◌, ◌≤◌, ◌<◌, length};
 ghost use Rattle.listing.specs.Gather.{Lent};
 ghost use Rattle.listing.specs.Listing.{listing};
-ghost use Rattle.listing.specs.Internal.{Puts, textRoom};
+ghost use Rattle.listing.specs.Internal.{Puts, text_room};
 
 use capture::Dialect;
 use listing::Input;
@@ -30,14 +30,14 @@ fn input_buffer() -> [u8; INPUT_ROOM]
 
 // Zeros for the text of any listing.
 fn text_buffer() -> [u8; TEXT_ROOM]
-    ensures { textRoom ≡ length result }
+    ensures { text_room ≡ length result }
 {
     [0; TEXT_ROOM]
 }
 
 // Puts the listing into a buffer that holds every listing, and answers its length.
 fn put_listing(bytes: &[u8], out: &mut [u8], d: Dialect) -> usize
-    requires { textRoom ≤ length out.old }
+    requires { text_room ≤ length out.old }
     ensures { Puts (listing d bytes.now) out.old 0 result out.new }
 {
     let written = write_listing(bytes, out, d);

@@ -2,8 +2,8 @@
 
 ghost use Rattle.std.specs.Prelude.{◌≡◌, ◌+◌, ◌*◌, ◌≤◌, ◌<◌, length, drop};
 ghost use Rattle.digits.specs.Stores.{Writes};
-ghost use Rattle.listing.specs.Lines.{letter, headerLine, row_line, endLine};
-ghost use Rattle.listing.specs.Internal.{Puts, tableLines, tableText, first_of, held_rows, heldText};
+ghost use Rattle.listing.specs.Lines.{letter, header_line, row_line, end_line};
+ghost use Rattle.listing.specs.Internal.{Puts, table_lines, table_text, first_of, held_rows, held_text};
 
 use digits::Written;
 use listing_lines::{fields_size, put_line};
@@ -26,7 +26,7 @@ fn row_size(table: &[u32], index: usize) -> usize
 fn rows_size(table: &[u32], rows: usize) -> usize
     requires rows_bound { rows ≤ 8192 }
     requires rows_in_bounds { 3 * rows ≤ length table.now }
-    ensures { result ≡ length (tableLines rows table.now) }
+    ensures { result ≡ length (table_lines rows table.now) }
 {
     let mut size: usize = 0;
     let mut i: usize = 0;
@@ -43,7 +43,7 @@ fn rows_size(table: &[u32], rows: usize) -> usize
 fn text_size(table: &[u32], rows: usize, size: u32, skipped: u32) -> usize
     requires rows_bound { rows ≤ 8192 }
     requires rows_in_bounds { 3 * rows ≤ length table.now }
-    ensures { result ≡ length (tableText rows table.now size skipped) }
+    ensures { result ≡ length (table_text rows table.now size skipped) }
 {
     let lines = rows_size(table, rows);
     let last = fields_size(size, skipped);
@@ -79,8 +79,8 @@ fn put_row(out: &mut [u8], at: usize, table: &[u32], index: usize) -> usize
 // Puts the lines of the first rows of the table.
 fn put_rows(out: &mut [u8], from: usize, table: &[u32], rows: usize) -> usize
     requires rows_in_bounds { 3 * rows ≤ length table.now }
-    requires table_in_bounds { from + length (tableLines rows table.now) ≤ length out.old }
-    ensures { Puts (tableLines rows table.now) out.old from result out.new }
+    requires table_in_bounds { from + length (table_lines rows table.now) ≤ length out.old }
+    ensures { Puts (table_lines rows table.now) out.old from result out.new }
 {
     let mut at = from;
     let mut i: usize = 0;
@@ -93,8 +93,8 @@ fn put_rows(out: &mut [u8], from: usize, table: &[u32], rows: usize) -> usize
 }
 
 fn put_end(out: &mut [u8], at: usize, size: u32, skipped: u32) -> usize
-    requires { at + length (endLine size skipped) ≤ length out.old }
-    ensures { Puts (endLine size skipped) out.old at result out.new }
+    requires { at + length (end_line size skipped) ≤ length out.old }
+    ensures { Puts (end_line size skipped) out.old at result out.new }
 {
     put_line(out, at, b"end", size, skipped)
 }
@@ -102,7 +102,7 @@ fn put_end(out: &mut [u8], at: usize, size: u32, skipped: u32) -> usize
 // Puts the first line.
 fn put_header(out: &mut [u8]) -> usize
     requires { 18 ≤ length out.old }
-    ensures { Puts headerLine out.old 0 result out.new }
+    ensures { Puts header_line out.old 0 result out.new }
 {
     stores::put_bytes(out, 0, b"kind\tplace\tlength\n");
     18
@@ -111,8 +111,8 @@ fn put_header(out: &mut [u8]) -> usize
 // Puts the first line, the lines of the table's rows, and the last line.
 fn put_all(out: &mut [u8], table: &[u32], rows: usize, size: u32, skipped: u32) -> usize
     requires rows_in_bounds { 3 * rows ≤ length table.now }
-    requires skipped_in_bounds { length (tableText rows table.now size skipped) ≤ length out.old }
-    ensures { Puts (tableText rows table.now size skipped) out.old 0 result out.new }
+    requires skipped_in_bounds { length (table_text rows table.now size skipped) ≤ length out.old }
+    ensures { Puts (table_text rows table.now size skipped) out.old 0 result out.new }
 {
     let first = put_header(out);
     let last = put_rows(out, first, table, rows);
@@ -136,7 +136,7 @@ fn held_rows(table: &[u32], rows: usize) -> usize
 fn write_rows(out: &mut [u8], table: &[u32], rows: usize, size: u32, skipped: u32) -> Written
     requires rows_bound { rows ≤ 8192 }
     requires rows_in_bounds { 3 * rows ≤ length table.now }
-    ensures { Writes 0 (tableText rows table.now size skipped) out.old result out.new }
+    ensures { Writes 0 (table_text rows table.now size skipped) out.old result out.new }
 {
     if out.len() < text_size(table, rows, size, skipped) {
         return Written {
@@ -154,7 +154,7 @@ fn write_rows(out: &mut [u8], table: &[u32], rows: usize, size: u32, skipped: u3
 // Writes the text of the first rows of a table, three numbers each, with the size of the input and its skipped bytes on the last line.
 // Of more rows than the table holds, or than 8,192, it writes none.
 pub fn write_table(out: &mut [u8], table: &[u32], rows: usize, size: u32, skipped: u32) -> Written
-    ensures { Writes 0 (heldText rows table.now size skipped) out.old result out.new }
+    ensures { Writes 0 (held_text rows table.now size skipped) out.old result out.new }
 {
     let held = held_rows(table, rows);
     write_rows(out, table, held, size, skipped)

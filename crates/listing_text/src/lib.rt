@@ -11,7 +11,7 @@ use listing_table::{OUTPUT_TOO_SHORT, write_table};
 // The most bytes of input that are listed.
 pub const MAX_INPUT: usize = 65536;
 
-// Three numbers for each of 8,192 rows: the shortest frame has 8 bytes, so an input within the limit has no more (`rows-in-bytes`).
+// Three numbers for each of 8,192 rows: the shortest frame has 8 bytes, so an input within the limit has no more (`rows_in_bytes`).
 const TABLE_ROOM: usize = 24576;
 
 // Zeros for the rows.

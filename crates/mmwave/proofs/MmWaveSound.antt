@@ -7,33 +7,33 @@ use native.Mathlib.Nat.{mod-one}
 use native.Mathlib.Omega.{arith}
 use lib.Dec.{eqb, leb}
 use borrow.Author.Tests.{eqb-true}
-use Rattle.digits.proofs.Choices.{within-bounds}
+use Rattle.digits.proofs.Choices.{within_bounds}
 use Rattle.mmwave.specs.Profile.{Sound}
-use Rattle.mmwave.specs.MmWave.{mmWave, totalLegal, payloadRule, onceBit, onceMark}
+use Rattle.mmwave.specs.MmWave.{mm_wave, total_legal, payload_rule, once_bit, once_mark}
 
 -- a legal total length is a multiple of 32 from 64 to 32,768
-pub total-bounds : (l : ℕ) → totalLegal l ≡ true → (l % 32 ≡ 0) × (64 ≤ l) × (l ≤ 32768)
-unfolding totalLegal
-total-bounds l h = go (eqb (l % 32) 0) refl h
+pub total_bounds : (l : ℕ) → total_legal l ≡ true → (l % 32 ≡ 0) × (64 ≤ l) × (l ≤ 32768)
+unfolding total_legal
+total_bounds l h = go (eqb (l % 32) 0) refl h
   where
     go : (b : Bool) → eqb (l % 32) 0 ≡ b → cond b (leb 64 l && leb l 32768) false ≡ true → (l % 32 ≡ 0) × (64 ≤ l) × (l ≤ 32768)
-    go true a j = let b = within-bounds 64 32768 l j in (eqb-true (l % 32) 0 a, b.0, b.1)
+    go true a j = let b = within_bounds 64 32768 l j in (eqb-true (l % 32) 0 a, b.0, b.1)
     go false a j = let z : ◌≡◌ {A = ℕ} 0 1 = cc in absurd (omega arith)
 
 -- the mmWave profile is sound
-pub mmWave-sound : Sound mmWave
-unfolding mmWave totalLegal payloadRule onceBit onceMark
-mmWave-sound = record {
-  some-total = (64, omega arith, refl);
-  some-objects = (0, omega arith, refl);
-  some-subframe = (0, omega arith, refl);
-  total-least = λ l t. omega (arith, (total-bounds l t).1);
-  total-some = λ l t. inr (omega (arith, (total-bounds l t).1));
-  total-fair = λ l t. mod-one (l - 40);
-  header-fair = refl;
-  length-fair = λ n type m h. mod-one m;
+pub mm_wave_sound : Sound mm_wave
+unfolding mm_wave total_legal payload_rule once_bit once_mark
+mm_wave_sound = record {
+  some_total = (64, omega arith, refl);
+  some_objects = (0, omega arith, refl);
+  some_subframe = (0, omega arith, refl);
+  total_least = λ l t. omega (arith, (total_bounds l t).1);
+  total_some = λ l t. inr (omega (arith, (total_bounds l t).1));
+  total_fair = λ l t. mod-one (l - 40);
+  header_fair = refl;
+  length_fair = λ n type m h. mod-one m;
   filler = 0;
-  filler-small = omega arith;
-  filler-takes = λ n room f. refl;
-  filler-repeats = refl;
+  filler_small = omega arith;
+  filler_takes = λ n room f. refl;
+  filler_repeats = refl;
 }

@@ -11,131 +11,131 @@ use borrow.Author.Tests.{leb-true}
 use Rattle.digits.proofs.Choices.{and_left, and_right, and_parts, and_both}
 use Rattle.form.specs.declared.Judgement.{Judgement}
 use Rattle.form.specs.declared.Judgement.TheVariants.{Whole, Bad}
-use Rattle.form.specs.Form.{Form, whole, ◌>>=◌, judgeAt}
+use Rattle.form.specs.Form.{Form, whole, ◌>>=◌, judge_at}
 use Rattle.form.specs.Pieces.{any, always, four, free}
-use Rattle.form.proofs.PieceLaws.{four-inverse, go_on, whole-there, taken, refused}
+use Rattle.form.proofs.PieceLaws.{four_inverse, go_on, whole_there, taken, refused}
 use Rattle.mmwave.specs.declared.Rule.{Rule}
-use Rattle.mmwave.specs.Profile.{Profile, legal, countOk, fits, possible, fresh, typeOk, typePasses, typeReason, lengthOk, see}
-use Rattle.mmwave.specs.Packet.{typeField, payload, last, records}
-use Rattle.mmwave.proofs.Marks.{seen-with}
+use Rattle.mmwave.specs.Profile.{Profile, legal, count_ok, fits, possible, fresh, type_ok, type_passes, type_reason, length_ok, see}
+use Rattle.mmwave.specs.Packet.{type_field, payload, last, records}
+use Rattle.mmwave.proofs.Marks.{seen_with}
 
 -- -- The tests
 
 -- the test of a type, by its rule
-pub type-test : (P : Profile) (n k room type : ℕ) {rule : Rule} {b : Bool} → rule ≡ P.rule type n → b ≡ possible P k room rule
-    → b ≡ typeOk P n k room type
-unfolding typeOk
-type-test P n k room type e h = h ∙ ap (possible P k room) e
+pub type_test : (P : Profile) (n k room type : ℕ) {rule : Rule} {b : Bool} → rule ≡ P.rule type n → b ≡ possible P k room rule
+    → b ≡ type_ok P n k room type
+unfolding type_ok
+type_test P n k room type e h = h ∙ ap (possible P k room) e
 
 -- a legal length is tested for its fit
 pub length_both : (P : Profile) (rule : Rule) (k room m : ℕ) {a b : Bool} → a ≡ legal rule m → a ≡ true → b ≡ fits P k room m
-    → b ≡ lengthOk P rule k room m
-unfolding lengthOk
+    → b ≡ length_ok P rule k room m
+unfolding length_ok
 length_both P rule k room m h t f = f ∙ ap (λ (x : Bool). x && fits P k room m) (sym t ∙ h)
 
 -- a length that is not legal
-pub length-not : (P : Profile) (rule : Rule) (k room m : ℕ) {a : Bool} → a ≡ legal rule m → a ≡ false → false ≡ lengthOk P rule k room m
-unfolding lengthOk
-length-not P rule k room m h t = ap (λ (x : Bool). x && fits P k room m) (sym t ∙ h)
+pub length_not : (P : Profile) (rule : Rule) (k room m : ℕ) {a : Bool} → a ≡ legal rule m → a ≡ false → false ≡ length_ok P rule k room m
+unfolding length_ok
+length_not P rule k room m h t = ap (λ (x : Bool). x && fits P k room m) (sym t ∙ h)
 
 -- a type passes both tests
-pub type-passes : (P : Profile) (n seen k room type : ℕ) → fresh P seen type ≡ true → typeOk P n k room type ≡ true
-    → typePasses P n seen k room type ≡ true
-unfolding typePasses
-type-passes P n seen k room type f t = and_both (fresh P seen type) (typeOk P n k room type) f t
+pub type_passes_lem : (P : Profile) (n seen k room type : ℕ) → fresh P seen type ≡ true → type_ok P n k room type ≡ true
+    → type_passes P n seen k room type ≡ true
+unfolding type_passes
+type_passes_lem P n seen k room type f t = and_both (fresh P seen type) (type_ok P n k room type) f t
 
 -- a type that passes passed both
-pub type-passed : (P : Profile) (n seen k room type : ℕ) → typePasses P n seen k room type ≡ true
-    → (fresh P seen type ≡ true) × (typeOk P n k room type ≡ true)
-unfolding typePasses
-type-passed P n seen k room type h = and_parts (fresh P seen type) (typeOk P n k room type) h
+pub type_passed : (P : Profile) (n seen k room type : ℕ) → type_passes P n seen k room type ≡ true
+    → (fresh P seen type ≡ true) × (type_ok P n k room type ≡ true)
+unfolding type_passes
+type_passed P n seen k room type h = and_parts (fresh P seen type) (type_ok P n k room type) h
 
 -- a type that is refused failed one, and the reason says which
 abbrev pub TypeFailed : Profile → ℕ → ℕ → ℕ → ℕ → ℕ → ℕ → Type 0
 TypeFailed P n seen k room type r =
-    ((r ≡ 25) × (fresh P seen type ≡ false)) ⊎ ((r ≡ 23) × (fresh P seen type ≡ true) × (typeOk P n k room type ≡ false))
+    ((r ≡ 25) × (fresh P seen type ≡ false)) ⊎ ((r ≡ 23) × (fresh P seen type ≡ true) × (type_ok P n k room type ≡ false))
 
-pub type-failed : (P : Profile) (n seen k room type r : ℕ) → typePasses P n seen k room type ≡ false → r ≡ typeReason P seen type
+pub type_failed : (P : Profile) (n seen k room type r : ℕ) → type_passes P n seen k room type ≡ false → r ≡ type_reason P seen type
     → TypeFailed P n seen k room type r
-unfolding typePasses typeReason
-type-failed P n seen k room type r h e = go (fresh P seen type) refl h e
+unfolding type_passes type_reason
+type_failed P n seen k room type r h e = go (fresh P seen type) refl h e
   where
-    go : (f : Bool) → fresh P seen type ≡ f → (f && typeOk P n k room type) ≡ false → r ≡ cond f 23 25 → TypeFailed P n seen k room type r
+    go : (f : Bool) → fresh P seen type ≡ f → (f && type_ok P n k room type) ≡ false → r ≡ cond f 23 25 → TypeFailed P n seen k room type r
     go true f t i = inr (i, f, t)
     go false f t i = inl (i, f)
 
 -- and the other way round
-pub type-repeats : (P : Profile) (n seen k room type : ℕ) → fresh P seen type ≡ false
-    → (typePasses P n seen k room type ≡ false) × (typeReason P seen type ≡ 25)
-unfolding typePasses typeReason
-type-repeats P n seen k room type f = rw f (refl, refl)
+pub type_repeats : (P : Profile) (n seen k room type : ℕ) → fresh P seen type ≡ false
+    → (type_passes P n seen k room type ≡ false) × (type_reason P seen type ≡ 25)
+unfolding type_passes type_reason
+type_repeats P n seen k room type f = rw f (refl, refl)
 
-pub type-unfit : (P : Profile) (n seen k room type : ℕ) → fresh P seen type ≡ true → typeOk P n k room type ≡ false
-    → (typePasses P n seen k room type ≡ false) × (typeReason P seen type ≡ 23)
-unfolding typePasses typeReason
-type-unfit P n seen k room type f t = rw (f, t) (refl, refl)
+pub type_unfit : (P : Profile) (n seen k room type : ℕ) → fresh P seen type ≡ true → type_ok P n k room type ≡ false
+    → (type_passes P n seen k room type ≡ false) × (type_reason P seen type ≡ 23)
+unfolding type_passes type_reason
+type_unfit P n seen k room type f t = rw (f, t) (refl, refl)
 
 -- a type that is there, by its tests
-module _ (P : Profile) (n seen k room at : ℕ) (bs : List ℕ) {j : Judgement} {v e : ℕ} (a : j ≡ judgeAt (four (always 0) any) at bs)
+module _ (P : Profile) (n seen k room at : ℕ) (bs : List ℕ) {j : Judgement} {v e : ℕ} (a : j ≡ judge_at (four (always 0) any) at bs)
     (b : j ≡ Whole v e) where
-  pub type-repeated : fresh P seen v ≡ false → Bad 25 ≡ judgeAt (typeField P n seen k room) at bs
-  type-repeated f = let g = type-repeats P n seen k room v f in
-      ap Bad (sym g.1) ∙ refused (typeReason P seen) (typePasses P n seen k room) at bs a b g.0
+  pub type_repeated : fresh P seen v ≡ false → Bad 25 ≡ judge_at (type_field P n seen k room) at bs
+  type_repeated f = let g = type_repeats P n seen k room v f in
+      ap Bad (sym g.1) ∙ refused (type_reason P seen) (type_passes P n seen k room) at bs a b g.0
 
-  pub type-not : fresh P seen v ≡ true → typeOk P n k room v ≡ false → Bad 23 ≡ judgeAt (typeField P n seen k room) at bs
-  type-not f t = let g = type-unfit P n seen k room v f t in
-      ap Bad (sym g.1) ∙ refused (typeReason P seen) (typePasses P n seen k room) at bs a b g.0
+  pub type_not : fresh P seen v ≡ true → type_ok P n k room v ≡ false → Bad 23 ≡ judge_at (type_field P n seen k room) at bs
+  type_not f t = let g = type_unfit P n seen k room v f t in
+      ap Bad (sym g.1) ∙ refused (type_reason P seen) (type_passes P n seen k room) at bs a b g.0
 
-  pub type-taken : fresh P seen v ≡ true → typeOk P n k room v ≡ true → Whole v e ≡ judgeAt (typeField P n seen k room) at bs
-  type-taken f t = taken (typeReason P seen) (typePasses P n seen k room) at bs a b (type-passes P n seen k room v f t)
+  pub type_taken : fresh P seen v ≡ true → type_ok P n k room v ≡ true → Whole v e ≡ judge_at (type_field P n seen k room) at bs
+  type_taken f t = taken (type_reason P seen) (type_passes P n seen k room) at bs a b (type_passes_lem P n seen k room v f t)
 
 -- a payload judged by the rule of its type
-pub payload-by : (P : Profile) (n k room type at : ℕ) (bs : List ℕ) {rule : Rule} {r : Judgement} → rule ≡ P.rule type n
-    → r ≡ judgeAt (payload P rule k room) at bs → r ≡ judgeAt (payload P (P.rule type n) k room) at bs
-payload-by P n k room type at bs e h = h ∙ ap (λ (rule : Rule). judgeAt (payload P rule k room) at bs) e
+pub payload_by : (P : Profile) (n k room type at : ℕ) (bs : List ℕ) {rule : Rule} {r : Judgement} → rule ≡ P.rule type n
+    → r ≡ judge_at (payload P rule k room) at bs → r ≡ judge_at (payload P (P.rule type n) k room) at bs
+payload_by P n k room type at bs e h = h ∙ ap (λ (rule : Rule). judge_at (payload P rule k room) at bs) e
 
 -- -- The records
 
 -- a record count that passed leaves room for the records' headers
-pub count_room : (P : Profile) (l k : ℕ) → countOk P l k ≡ true → 40 + 8 * k ≤ l
-unfolding countOk
+pub count_room : (P : Profile) (l k : ℕ) → count_ok P l k ≡ true → 40 + 8 * k ≤ l
+unfolding count_ok
 count_room P l k h = let r = ltb 0 k || leb (l - 40) P.padding in
     leb-true (40 + 8 * k) l (and_left (leb (40 + 8 * k) l) r (and_right (leb k 32) (leb (40 + 8 * k) l && r) h))
 
 -- the same where it was read
-pub count-leaves : (P : Profile) (l at : ℕ) (bs : List ℕ) {k e : ℕ} {r : Judgement} → r ≡ judgeAt (four (always 22) (countOk P l)) at bs
+pub count_leaves : (P : Profile) (l at : ℕ) (bs : List ℕ) {k e : ℕ} {r : Judgement} → r ≡ judge_at (four (always 22) (count_ok P l)) at bs
     → r ≡ Whole k e → 40 + 8 * k ≤ l
-count-leaves P l at bs {k} {e} a b = count_room P l k (four-inverse (always 22) (countOk P l) at bs k e (sym a ∙ b)).2
+count_leaves P l at bs {k} {e} a b = count_room P l k (four_inverse (always 22) (count_ok P l) at bs k e (sym a ∙ b)).2
 
 -- the padding is there: the packet ends behind it, with its kind
-pub last-whole : (P : Profile) (room at : ℕ) (bs : List ℕ) {v u e : ℕ} {r : Judgement} → v ≡ P.kind → r ≡ judgeAt (free room) at bs
-    → r ≡ Whole u e → Whole v e ≡ judgeAt (last P room) at bs
+pub last_whole : (P : Profile) (room at : ℕ) (bs : List ℕ) {v u e : ℕ} {r : Judgement} → v ≡ P.kind → r ≡ judge_at (free room) at bs
+    → r ≡ Whole u e → Whole v e ≡ judge_at (last P room) at bs
 unfolding last
-last-whole P room at bs {v} {u} {e} k a b =
-    ap (λ (v : ℕ). Whole v e) k ∙ whole-there P.kind e bs ∙ sym (go_on (free room) (λ _. whole P.kind) at bs a b)
+last_whole P room at bs {v} {u} {e} k a b =
+    ap (λ (v : ℕ). Whole v e) k ∙ whole_there P.kind e bs ∙ sym (go_on (free room) (λ _. whole P.kind) at bs a b)
 
 -- no record is left
-pub records-none : (P : Profile) (n seen k room at : ℕ) (bs : List ℕ) → k ≡ 0
-    → judgeAt (last P room) at bs ≡ judgeAt (records P n seen k room) at bs
+pub records_none : (P : Profile) (n seen k room at : ℕ) (bs : List ℕ) → k ≡ 0
+    → judge_at (last P room) at bs ≡ judge_at (records P n seen k room) at bs
 unfolding records
-records-none P n seen k room at bs h = rw h
+records_none P n seen k room at bs h = rw h
 
 -- the records behind one of a type with this mark
-pub records-behind : (P : Profile) (n seen k room type at : ℕ) (bs : List ℕ) {mark : ℕ} {r : Judgement} → mark ≡ P.mark type
-    → r ≡ judgeAt (records P n (bit_or seen mark) k room) at bs → r ≡ judgeAt (records P n (see P seen type) k room) at bs
-records-behind P n seen k room type at bs e h =
-    h ∙ ap (λ (seen : ℕ). judgeAt (records P n seen k room) at bs) (seen-with P seen type e)
+pub records_behind_lem : (P : Profile) (n seen k room type at : ℕ) (bs : List ℕ) {mark : ℕ} {r : Judgement} → mark ≡ P.mark type
+    → r ≡ judge_at (records P n (bit_or seen mark) k room) at bs → r ≡ judge_at (records P n (see P seen type) k room) at bs
+records_behind_lem P n seen k room type at bs e h =
+    h ∙ ap (λ (seen : ℕ). judge_at (records P n seen k room) at bs) (seen_with P seen type e)
 
 -- what follows the type of the first of k records: its payload length and payload, and the remaining records
-abbrev pub behindType : Profile → ℕ → ℕ → ℕ → ℕ → ℕ → Form
-behindType P n seen k room type = payload P (P.rule type n) k room >>= (λ m. records P n (see P seen type) (k - 1) (room - m))
+abbrev pub behind_type : Profile → ℕ → ℕ → ℕ → ℕ → ℕ → Form
+behind_type P n seen k room type = payload P (P.rule type n) k room >>= (λ m. records P n (see P seen type) (k - 1) (room - m))
 
 -- the first one, then the remaining ones right behind it
-records-more : (P : Profile) (n seen k room : ℕ) → (k ≡ 0 → ⊥)
-    → records P n seen k room ≡ typeField P n seen k room >>= behindType P n seen k room
+records_more : (P : Profile) (n seen k room : ℕ) → (k ≡ 0 → ⊥)
+    → records P n seen k room ≡ type_field P n seen k room >>= behind_type P n seen k room
 unfolding records
-records-more P n seen zero room h = absurd (h refl)
-records-more P n seen (suc k) room h = ap (λ (j : ℕ). typeField P n seen (suc k) room >>= (λ type. behind type j)) e
+records_more P n seen zero room h = absurd (h refl)
+records_more P n seen (suc k) room h = ap (λ (j : ℕ). type_field P n seen (suc k) room >>= (λ type. behind type j)) e
   where
     behind : ℕ → ℕ → Form
     behind type j = payload P (P.rule type n) (suc k) room >>= (λ m. records P n (see P seen type) j (room - m))
@@ -143,12 +143,12 @@ records-more P n seen (suc k) room h = ap (λ (j : ℕ). typeField P n seen (suc
     e : k ≡ suc k - 1
     e = omega arith
 
-pub records-first : (P : Profile) (n seen k room at : ℕ) (bs : List ℕ) {r : Judgement} → (k ≡ 0 → ⊥)
-    → r ≡ judgeAt (typeField P n seen k room >>= behindType P n seen k room) at bs → r ≡ judgeAt (records P n seen k room) at bs
-records-first P n seen k room at bs s h = h ∙ sym (ap (λ (p : Form). judgeAt p at bs) (records-more P n seen k room s))
+pub records_first : (P : Profile) (n seen k room at : ℕ) (bs : List ℕ) {r : Judgement} → (k ≡ 0 → ⊥)
+    → r ≡ judge_at (type_field P n seen k room >>= behind_type P n seen k room) at bs → r ≡ judge_at (records P n seen k room) at bs
+records_first P n seen k room at bs s h = h ∙ sym (ap (λ (p : Form). judge_at p at bs) (records_more P n seen k room s))
 
 -- a payload length that passed lies in the room
-pub passed-fits : (P : Profile) (rule : Rule) (k room m : ℕ) → lengthOk P rule k room m ≡ true → m ≤ room
-unfolding lengthOk fits
-passed-fits P rule k room m a = let r = ltb 1 k || leb (room - m) P.padding in
+pub passed_fits : (P : Profile) (rule : Rule) (k room m : ℕ) → length_ok P rule k room m ≡ true → m ≤ room
+unfolding length_ok fits
+passed_fits P rule k room m a = let r = ltb 1 k || leb (room - m) P.padding in
     leb-true m room (and_left (leb m room) r (and_right (legal rule m) (leb m room && r) a))

@@ -10,26 +10,26 @@ use Rattle.form.specs.declared.Judgement.TheVariants.{Bad, Waiting}
 use Rattle.form.specs.Form.{◌>>=◌, judge, Completable, Inside}
 use Rattle.form.specs.Pieces.{marker}
 use Rattle.form.specs.Judging.{Lawful}
-use Rattle.digits.proofs.Lists.{drop-one}
-use Rattle.form.proofs.Theorems.{waits-exactly, inside-waits, lawful}
+use Rattle.digits.proofs.Lists.{drop_one}
+use Rattle.form.proofs.Theorems.{waits_exactly, inside_waits, lawful}
 use Rattle.mmwave.specs.Profile.{Profile, Sound}
 use Rattle.mmwave.specs.Packet.{magic, packet}
-use Rattle.mmwave.proofs.Lives.{live-packet, begins-packet}
+use Rattle.mmwave.proofs.Lives.{live_packet, begins_packet}
 
 -- bytes that do not end inside a four-byte field wait exactly if no packet stands and some further bytes complete one
-pub packet-waits : (P : Profile) → Sound P → (bs : List ℕ) → Bytes bs → (Inside (packet P) bs → ⊥)
+pub packet_waits : (P : Profile) → Sound P → (bs : List ℕ) → Bytes bs → (Inside (packet P) bs → ⊥)
     → (judge (packet P) 0 bs ≡ Waiting) ↔ Completable (packet P) bs
-packet-waits P S bs = waits-exactly (packet P) bs (live-packet P S)
+packet_waits P S bs = waits_exactly (packet P) bs (live_packet P S)
 
 -- bytes that end inside a four-byte field wait
-pub packet-inside : (P : Profile) (bs : List ℕ) → Inside (packet P) bs → judge (packet P) 0 bs ≡ Waiting
-packet-inside P bs = inside-waits (packet P) 0 bs
+pub packet_inside : (P : Profile) (bs : List ℕ) → Inside (packet P) bs → judge (packet P) 0 bs ≡ Waiting
+packet_inside P bs = inside_waits (packet P) 0 bs
 
 -- readings can go by the packet's judgement: a whole packet lies within the bytes and is not empty, and the end waits
-pub packet-lawful : (P : Profile) → Lawful (judge (packet P) 0)
-packet-lawful P = lawful (packet P) (begins-packet P)
+pub packet_lawful : (P : Profile) → Lawful (judge (packet P) 0)
+packet_lawful P = lawful (packet P) (begins_packet P)
 
 -- no packet starts at a byte other than 2, the magic's first
 pub no_start : (P : Profile) (at : ℕ) (bs : List ℕ) → at < length bs → (get_or bs at 0 ≡ 2 → ⊥) → judge (packet P) 0 (drop at bs) ≡ Bad 20
 unfolding packet magic marker ◌>>=◌ judge
-no_start P at bs h d = rw (drop-one bs at h, ne_eqb (get_or bs at 0) 2 d)
+no_start P at bs h d = rw (drop_one bs at h, ne_eqb (get_or bs at 0) 2 d)

@@ -6,7 +6,7 @@ use Prim.Native.Nat.{ℕ, zero, suc, ◌<◌}
 use native.Mathlib.Omega.{arith}
 use native.Mathlib.Decide.{dec_lt}
 use lib.ListN.{length, get_or}
-use Rattle.mmwave.specs.Paper.{Sentences, EachOnce, KnownAgain, mmWaveSays, NoneExcludes}
+use Rattle.mmwave.specs.Paper.{Sentences, EachOnce, KnownAgain, mm_wave_says, NoneExcludes}
 
 -- none of the types us is excluded by one before it among them, or by one of ts, which stand before them, the last one first
 unfoldable pub NoneAgain : Sentences → List ℕ → List ℕ → Type 0
@@ -22,28 +22,28 @@ module _ (W : Sentences) where
   none_before ts (u ∷ us) h (suc j) l = (none_before (u ∷ ts) us h.1 j (omega arith)).1
 
   -- none of them excludes a later one
-  pairs-apart : (ts us : List ℕ) → NoneAgain W ts us → (i j : ℕ) → i < j → j < length us → W.Excludes (get_or us i 0) (get_or us j 0) → ⊥
+  pairs_apart : (ts us : List ℕ) → NoneAgain W ts us → (i j : ℕ) → i < j → j < length us → W.Excludes (get_or us i 0) (get_or us j 0) → ⊥
   unfolding NoneAgain NoneExcludes
-  pairs-apart ts [] h i j b l = absurd (omega arith)
-  pairs-apart ts (u ∷ us) h i zero b l = absurd (omega arith)
-  pairs-apart ts (u ∷ us) h zero (suc j) b l = (none_before (u ∷ ts) us h.1 j (omega arith)).0
-  pairs-apart ts (u ∷ us) h (suc i) (suc j) b l = pairs-apart (u ∷ ts) us h.1 i j (omega arith) (omega arith)
+  pairs_apart ts [] h i j b l = absurd (omega arith)
+  pairs_apart ts (u ∷ us) h i zero b l = absurd (omega arith)
+  pairs_apart ts (u ∷ us) h zero (suc j) b l = (none_before (u ∷ ts) us h.1 j (omega arith)).0
+  pairs_apart ts (u ∷ us) h (suc i) (suc j) b l = pairs_apart (u ∷ ts) us h.1 i j (omega arith) (omega arith)
 
   -- and the other way round
-  apart-again : (ts us : List ℕ) → ((j : ℕ) → j < length us → NoneExcludes W ts (get_or us j 0))
+  apart_again : (ts us : List ℕ) → ((j : ℕ) → j < length us → NoneExcludes W ts (get_or us j 0))
       → ((i j : ℕ) → i < j → j < length us → W.Excludes (get_or us i 0) (get_or us j 0) → ⊥) → NoneAgain W ts us
   unfolding NoneAgain NoneExcludes
-  apart-again ts [] before pairs = tt
-  apart-again ts (u ∷ us) before pairs = (
+  apart_again ts [] before pairs = tt
+  apart_again ts (u ∷ us) before pairs = (
     before 0 (omega arith),
-    apart-again (u ∷ ts) us (λ j l. (pairs 0 (suc j) (omega arith) (omega arith), before (suc j) (omega arith)))
+    apart_again (u ∷ ts) us (λ j l. (pairs 0 (suc j) (omega arith) (omega arith), before (suc j) (omega arith)))
         (λ i j b l. pairs (suc i) (suc j) (omega arith) (omega arith)),
   )
 
 -- each kind of record once: none of the types excludes a later one
-pub each-once : (types : List ℕ) → EachOnce types ↔ NoneAgain mmWaveSays [] types
+pub each_once : (types : List ℕ) → EachOnce types ↔ NoneAgain mm_wave_says [] types
 unfolding NoneExcludes
-each-once types = (λ h. apart-again mmWaveSays [] types (λ j l. tt) (apart h), λ h. once (pairs-apart mmWaveSays [] types h))
+each_once types = (λ h. apart_again mm_wave_says [] types (λ j l. tt) (apart h), λ h. once (pairs_apart mm_wave_says [] types h))
   where
     apart : EachOnce types → (i j : ℕ) → i < j → j < length types → KnownAgain (get_or types i 0) (get_or types j 0) → ⊥
     apart h i j b l (inl x) = h.known i j b l x.0 x.1 x.2

@@ -1,6 +1,6 @@
 -- What only the code's own contracts need; no rule of the papers is stated here.
 use Rattle.std.specs.Prelude.{cond, ◌≡◌, List, ℕ, ◌+◌, ◌*◌, eqb}
-use Rattle.form.specs.Form.{judgeAt}
+use Rattle.form.specs.Form.{judge_at}
 use Rattle.form.specs.declared.Judgement.{Judgement}
 use Rattle.form.specs.declared.Judgement.TheVariants.{Whole, Bad}
 use Rattle.mmwave.specs.declared.Unit.{Unit}
@@ -14,7 +14,7 @@ settled P reason end = cond (eqb reason 0) (Whole P.kind end) (Bad reason)
 
 -- the walk over k records from an offset on, behind others whose types have been seen, settles them so
 abbrev pub Settles : Profile → ℕ → ℕ → ℕ → ℕ → ℕ → List ℕ → ℕ → Type 0
-Settles P n seen k room at bs reason = settled P reason (at + 8 * k + room) ≡ judgeAt (records P n seen k room) at bs
+Settles P n seen k room at bs reason = settled P reason (at + 8 * k + room) ≡ judge_at (records P n seen k room) at bs
 
 -- the bits below a unit
 abbrev pub low_bits : Unit → ℕ

@@ -7,43 +7,43 @@ use Rattle.mmwave.specs.declared.Unit.TheVariants.{Two, Four}
 use Rattle.mmwave.specs.Profile.{Profile}
 
 -- L is a multiple of 32 from 64 to 32,768 (paper 01, "mmWave")
-unfoldable pub totalLegal : ℕ → Bool
-totalLegal l = cond (eqb (l % 32) 0) (leb 64 l && leb l 32768) false
+unfoldable pub total_legal : ℕ → Bool
+total_legal l = cond (eqb (l % 32) 0) (leb 64 l && leb l 32768) false
 
 -- so many bytes for each of n objects, and n is not 0
-unfoldable pub perObject : ℕ → ℕ → Rule
-perObject size n = cond (eqb n 0) Never (Exact (size * n))
+unfoldable pub per_object : ℕ → ℕ → Rule
+per_object size n = cond (eqb n 0) Never (Exact (size * n))
 
 -- payload lengths by type, with n the object count (paper 01, "mmWave")
-unfoldable pub payloadRule : ℕ → ℕ → Rule
-payloadRule type n =
-    cond (eqb type 1) (perObject 16 n)
+unfoldable pub payload_rule : ℕ → ℕ → Rule
+payload_rule type n =
+    cond (eqb type 1) (per_object 16 n)
     (cond (eqb type 2) (Multiple Two)
     (cond (eqb type 3) (Multiple Two)
     (cond (eqb type 4) (Multiple Four)
     (cond (eqb type 5) (Multiple Two)
     (cond (eqb type 6) (Exact 24)
-    (cond (eqb type 7) (perObject 4 n)
+    (cond (eqb type 7) (per_object 4 n)
     (cond (eqb type 8) (Multiple Four)
     (cond (eqb type 9) (Exact 28) Free))))))))
 
 -- a bit of its own for each known type (1 to 9), but one for 4 and 8 (paper 02, (vii)); 0: no bit
-unfoldable pub onceBit : ℕ → ℕ
-onceBit type = cond (eqb type 8) 4 (cond (leb type 9) type 0)
+unfoldable pub once_bit : ℕ → ℕ
+once_bit type = cond (eqb type 8) 4 (cond (leb type 9) type 0)
 
 -- the mark of a type among those seen: its bit; types with one mark exclude one another
-unfoldable pub onceMark : ℕ → ℕ
-onceMark type = cond (eqb (onceBit type) 0) 0 (2 ^ onceBit type)
+unfoldable pub once_mark : ℕ → ℕ
+once_mark type = cond (eqb (once_bit type) 0) 0 (2 ^ once_bit type)
 
 -- the profile; L is the smallest multiple of 32 not below the end of the last record, so the padding is at most 31 bytes
-unfoldable pub mmWave : Profile
-mmWave = record {
+unfoldable pub mm_wave : Profile
+mm_wave = record {
   kind = 16;
-  total = totalLegal;
+  total = total_legal;
   objects = any;
   subframe = any;
-  rule = payloadRule;
-  mark = onceMark;
+  rule = payload_rule;
+  mark = once_mark;
   padding = 31;
   unit = 1;
 }

@@ -1,6 +1,6 @@
 // What a dialect of packets fixes: its kind, the object count, the subframe, the padding (paper 01, "mmWave"; paper 02, (i)).
 ghost use Rattle.std.specs.Prelude.{◌≡◌};
-ghost use Rattle.mmwave.specs.Dialects.{profileOf};
+ghost use Rattle.mmwave.specs.Dialects.{profile_of};
 
 use mmwave::PacketDialect;
 
@@ -11,7 +11,7 @@ pub const VITAL_KIND: u32 = 17;
 
 // The kind of a dialect's packets.
 pub fn kind_of(d: PacketDialect) -> u32
-    ensures { result ≡ (profileOf d).kind }
+    ensures { result ≡ (profile_of d).kind }
 {
     match d {
         PacketDialect::MmWave => KIND,
@@ -21,7 +21,7 @@ pub fn kind_of(d: PacketDialect) -> u32
 
 // Is the field at 28, the object count, legal?
 pub fn objects_ok(n: u32, d: PacketDialect) -> bool
-    ensures { result ≡ (profileOf d).objects n }
+    ensures { result ≡ (profile_of d).objects n }
 {
     match d {
         PacketDialect::MmWave => true,
@@ -31,7 +31,7 @@ pub fn objects_ok(n: u32, d: PacketDialect) -> bool
 
 // Is the subframe legal?
 pub fn subframe_ok(v: u32, d: PacketDialect) -> bool
-    ensures { result ≡ (profileOf d).subframe v }
+    ensures { result ≡ (profile_of d).subframe v }
 {
     match d {
         PacketDialect::MmWave => true,
@@ -41,7 +41,7 @@ pub fn subframe_ok(v: u32, d: PacketDialect) -> bool
 
 // The most bytes of padding.
 pub fn padding_of(d: PacketDialect) -> u32
-    ensures { result ≡ (profileOf d).padding }
+    ensures { result ≡ (profile_of d).padding }
 {
     match d {
         PacketDialect::MmWave => 31,

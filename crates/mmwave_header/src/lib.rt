@@ -1,10 +1,10 @@
 // The tests of a packet's total length and record count (paper 01, "mmWave", document 004; paper 02, (i), document 002). Where the
 // dialects differ, a function matches on them; what they share is said once.
 ghost use Rattle.std.specs.Prelude.{◌≡◌};
-ghost use Rattle.mmwave.specs.Profile.{countOk};
-ghost use Rattle.mmwave.specs.MmWave.{totalLegal};
-ghost use Rattle.mmwave.specs.VitalSigns.{vitalTotal};
-ghost use Rattle.mmwave.specs.Dialects.{profileOf};
+ghost use Rattle.mmwave.specs.Profile.{count_ok};
+ghost use Rattle.mmwave.specs.MmWave.{total_legal};
+ghost use Rattle.mmwave.specs.VitalSigns.{vital_total};
+ghost use Rattle.mmwave.specs.Dialects.{profile_of};
 
 use mmwave::{Header, PacketDialect};
 use mmwave_dialects::padding_of;
@@ -15,7 +15,7 @@ pub const MOST_RECORDS: u32 = 32;
 
 // A multiple of 32 from 64 on.
 fn mmwave_total(l: u32) -> bool
-    ensures { result ≡ totalLegal l }
+    ensures { result ≡ total_legal l }
 {
     if l % 32 != 0 {
         return false;
@@ -28,7 +28,7 @@ fn mmwave_total(l: u32) -> bool
 
 // A multiple of 4 from 40 on, and not 44.
 fn vital_total(l: u32) -> bool
-    ensures { result ≡ vitalTotal l }
+    ensures { result ≡ vital_total l }
 {
     if l % 4 != 0 {
         return false;
@@ -44,7 +44,7 @@ fn vital_total(l: u32) -> bool
 
 // Is the total length legal? What both dialects ask comes first: one byte settles most false magics.
 pub fn total_ok(l: u32, d: PacketDialect) -> bool
-    ensures { result ≡ (profileOf d).total l }
+    ensures { result ≡ (profile_of d).total l }
 {
     if l % 4 != 0 {
         return false;
@@ -57,7 +57,7 @@ pub fn total_ok(l: u32, d: PacketDialect) -> bool
 
 // Can a packet of this total length have so many records? The bound on the count comes before its product.
 pub fn count_ok(l: u32, k: u32, d: PacketDialect) -> bool
-    ensures { result ≡ countOk (profileOf d) l k }
+    ensures { result ≡ count_ok (profile_of d) l k }
 {
     if MOST_RECORDS < k {
         return false;

@@ -1,11 +1,11 @@
 // The judgement of a packet's records behind its header, and its quick way: where the bytes are all there, no field tests their length
 // (paper 01, "mmWave"; paper 02, (i) and (vii)).
 ghost use Rattle.std.specs.Prelude.{◌≡◌, cond, ◌+◌, ◌*◌, ◌^◌, ◌≤◌, ◌<◌, length};
-ghost use Rattle.digits.specs.LittleEndian.{littleAt};
+ghost use Rattle.digits.specs.LittleEndian.{little_at};
 ghost use Rattle.form.specs.Numbers.{Judges};
-ghost use Rattle.mmwave.specs.Profile.{typeOk};
+ghost use Rattle.mmwave.specs.Profile.{type_ok};
 ghost use Rattle.mmwave.specs.Packet.{records};
-ghost use Rattle.mmwave.specs.Dialects.{profileOf};
+ghost use Rattle.mmwave.specs.Dialects.{profile_of};
 ghost use Rattle.mmwave.specs.Internal.{Settles};
 
 use form::Judgement;
@@ -18,14 +18,14 @@ use mmwave_rules::{mark_of, rule_of};
 // The number in four bytes that are there.
 fn field(s: &[u8], at: usize) -> u32
     requires { at + 4 ≤ length s.now }
-    ensures { result ≡ littleAt 4 at s.now }
+    ensures { result ≡ little_at 4 at s.now }
 {
     numbers::join(s[at], s[at + 1], s[at + 2], s[at + 3])
 }
 
 // The reason of a record whose payload length does not pass: its type's, if no length of it fits.
 fn refusal_of(tag: u32, objects: u32, k: u32, room: u32, d: PacketDialect) -> u32
-    ensures { result ≡ cond (typeOk (profileOf d) objects k room tag) 24 23 }
+    ensures { result ≡ cond (type_ok (profile_of d) objects k room tag) 24 23 }
 {
     if type_ok(rule_of(tag, objects, d), k, room, d) {
         return BAD_LENGTH;
@@ -46,7 +46,7 @@ fn walk_inside(
     d: PacketDialect,
 ) -> u32
     requires { (at + 8 * k + room ≤ length s.now.now) × (at + 8 * k + room < 2 ^ 64) }
-    ensures { Settles (profileOf d) objects seen k room at s.now.now result }
+    ensures { Settles (profile_of d) objects seen k room at s.now.now result }
 {
     if k == 0 {
         return 0;
@@ -67,7 +67,7 @@ fn walk_inside(
 
 // The judgement of the `k` records behind a header, whose payloads and padding have this room; 23, 24, 25, or waiting.
 pub fn judge_records(s: &[u8], objects: u32, k: u32, room: u32, d: PacketDialect) -> Judgement
-    ensures { Judges (records (profileOf d) objects 0 k room) 40 s.now result }
+    ensures { Judges (records (profile_of d) objects 0 k room) 40 s.now result }
 {
     let total = Header::SIZE + 8 * (k as usize) + (room as usize);
     if s.len() < total {

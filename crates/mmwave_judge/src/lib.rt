@@ -1,10 +1,10 @@
 // The judgement of a packet: its header at once where it is there, else piece by piece (paper 01, "mmWave"; paper 02, (i)).
 ghost use Rattle.std.specs.Prelude.{◌≡◌, true, false, ◌+◌, ◌-◌, ◌*◌, ◌≤◌, length, take};
-ghost use Rattle.digits.specs.LittleEndian.{littleAt};
-ghost use Rattle.form.specs.Form.{judge as Form·judge, judgeAt};
+ghost use Rattle.digits.specs.LittleEndian.{little_at};
+ghost use Rattle.form.specs.Form.{judge as Form·judge, judge_at};
 ghost use Rattle.form.specs.Numbers.{Judges};
 ghost use Rattle.mmwave.specs.Packet.{magic, records, packet};
-ghost use Rattle.mmwave.specs.Dialects.{profileOf};
+ghost use Rattle.mmwave.specs.Dialects.{profile_of};
 
 use form::Judgement;
 use mmwave::{Header, PacketDialect};
@@ -34,7 +34,7 @@ fn has_magic(s: &[u8]) -> bool
 // The number at an offset of a header that is there.
 fn number(s: &[u8], at: usize) -> u32
     requires { at + 4 ≤ length s.now }
-    ensures { result ≡ littleAt 4 at s.now }
+    ensures { result ≡ little_at 4 at s.now }
 {
     numbers::word_at(s, at)
 }
@@ -42,7 +42,7 @@ fn number(s: &[u8], at: usize) -> u32
 // What follows the header, with a total length and a record count that passed.
 fn behind_header(s: &[u8], l: u32, objects: u32, k: u32, d: PacketDialect) -> Judgement
     requires { 40 + 8 * k ≤ l }
-    ensures { result ≡ judgeAt (records (profileOf d) objects 0 k (l - (40 + 8 * k))) 40 s.now }
+    ensures { result ≡ judge_at (records (profile_of d) objects 0 k (l - (40 + 8 * k))) 40 s.now }
 {
     let room = (l as usize - (Header::SIZE + 8 * (k as usize))) as u32;
     judge_records(s, objects, k, room, d)
@@ -51,7 +51,7 @@ fn behind_header(s: &[u8], l: u32, objects: u32, k: u32, d: PacketDialect) -> Ju
 // The judgement where the header is there.
 fn judge_header(s: &[u8], d: PacketDialect) -> Judgement
     requires { 40 ≤ length s.now }
-    ensures { result ≡ Form·judge (packet (profileOf d)) 0 s.now }
+    ensures { result ≡ Form·judge (packet (profile_of d)) 0 s.now }
 {
     if has_magic(s) {
         let l = number(s, Header::TOTAL);
@@ -77,7 +77,7 @@ fn judge_header(s: &[u8], d: PacketDialect) -> Judgement
 // The judgement of the bytes as a packet of a dialect from their first on: its kind, 16 or 17, with the length, a reason from 20 to 26,
 // or waiting.
 pub fn judge(bytes: &[u8], d: PacketDialect) -> Judgement
-    ensures { Judges (packet (profileOf d)) 0 bytes.now result }
+    ensures { Judges (packet (profile_of d)) 0 bytes.now result }
 {
     if bytes.len() < Header::SIZE {
         return judge_pieces(bytes, d);

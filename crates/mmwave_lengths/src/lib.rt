@@ -1,8 +1,8 @@
 // The tests of a record's type and payload length by the rule of the type; how a length fits is said once (paper 01, "mmWave"; paper 02,
 // (i)).
 ghost use Rattle.std.specs.Prelude.{◌≡◌, ◌%◌};
-ghost use Rattle.mmwave.specs.Profile.{unit_of, legal, fits, possible, lengthOk};
-ghost use Rattle.mmwave.specs.Dialects.{profileOf};
+ghost use Rattle.mmwave.specs.Profile.{unit_of, legal, fits, possible, length_ok};
+ghost use Rattle.mmwave.specs.Dialects.{profile_of};
 ghost use Rattle.mmwave.specs.Internal.{low_bits};
 
 use mmwave::{PacketDialect, Rule, Unit};
@@ -28,7 +28,7 @@ fn beyond(unit: Unit, m: u32) -> u32
 
 // Does a payload of `m` bytes fit, with `k` records left (this one counted) and `room` bytes for their payloads and the padding?
 fn payload_fits(k: u32, room: u32, m: u32, d: PacketDialect) -> bool
-    ensures { result ≡ fits (profileOf d) k room m }
+    ensures { result ≡ fits (profile_of d) k room m }
 {
     if 1 < k {
         return m <= room;
@@ -41,7 +41,7 @@ fn payload_fits(k: u32, room: u32, m: u32, d: PacketDialect) -> bool
 
 // The same for a length that may need more than 32 bits.
 fn exact_fits(k: u32, room: u32, n: u64, d: PacketDialect) -> bool
-    ensures { result ≡ fits (profileOf d) k room n }
+    ensures { result ≡ fits (profile_of d) k room n }
 {
     if (room as u64) < n {
         return false;
@@ -51,7 +51,7 @@ fn exact_fits(k: u32, room: u32, n: u64, d: PacketDialect) -> bool
 
 // Does some multiple of the unit fit?
 fn some_multiple_fits(k: u32, room: u32, unit: Unit, d: PacketDialect) -> bool
-    ensures { result ≡ possible (profileOf d) k room (Rule.Multiple unit) }
+    ensures { result ≡ possible (profile_of d) k room (Rule.Multiple unit) }
 {
     if 1 < k {
         return true;
@@ -61,7 +61,7 @@ fn some_multiple_fits(k: u32, room: u32, unit: Unit, d: PacketDialect) -> bool
 
 // Does some length of the rule fit?
 pub fn type_ok(rule: Rule, k: u32, room: u32, d: PacketDialect) -> bool
-    ensures { result ≡ possible (profileOf d) k room rule }
+    ensures { result ≡ possible (profile_of d) k room rule }
 {
     match rule {
         Rule::Never => false,
@@ -85,7 +85,7 @@ fn length_legal(rule: Rule, m: u32) -> bool
 
 // Is the payload length legal for the rule, and does it fit?
 pub fn length_ok(rule: Rule, k: u32, room: u32, m: u32, d: PacketDialect) -> bool
-    ensures { result ≡ lengthOk (profileOf d) rule k room m }
+    ensures { result ≡ length_ok (profile_of d) rule k room m }
 {
     if length_legal(rule, m) {
         return payload_fits(k, room, m, d);

@@ -1,11 +1,11 @@
 // A packet judged piece by piece in byte order, which fits any number of bytes (paper 01, "mmWave" and "Judging a place"; paper 02, (i)).
 ghost use Rattle.std.specs.Prelude.{◌≡◌};
-ghost use Rattle.form.specs.Form.{judgeAt};
+ghost use Rattle.form.specs.Form.{judge_at};
 ghost use Rattle.form.specs.Numbers.{Judges};
 ghost use Rattle.form.specs.Pieces.{always, four, marker};
 ghost use Rattle.mmwave.specs.Packet.{magic, counted, packet};
-ghost use Rattle.mmwave.specs.Dialects.{profileOf};
-ghost use Rattle.mmwave_pieces.specs.Internal.{reasonOf, test_of};
+ghost use Rattle.mmwave.specs.Dialects.{profile_of};
+ghost use Rattle.mmwave_pieces.specs.Internal.{reason_of, test_of};
 
 use form::Judgement;
 use mmwave::{Header, PacketDialect};
@@ -26,7 +26,7 @@ const MAGIC: [u8; 8] = [2, 1, 4, 3, 6, 5, 8, 7];
 
 // The magic, byte by byte.
 fn magic_at(s: &[u8], from: usize) -> Judgement
-    ensures { result ≡ judgeAt (marker 20 magic) from s.now }
+    ensures { result ≡ judge_at (marker 20 magic) from s.now }
 {
     let mut at = from;
     let mut i: usize = 0;
@@ -55,7 +55,7 @@ pub enum Check {
 
 // The reason of a field that does not pass.
 fn reason_of(check: Check) -> u32
-    ensures { result ≡ reasonOf check }
+    ensures { result ≡ reason_of check }
 {
     match check {
         Check::Total => BAD_TOTAL,
@@ -67,7 +67,7 @@ fn reason_of(check: Check) -> u32
 
 // Does the field's number pass?
 fn passes(check: Check, v: u32, d: PacketDialect) -> bool
-    ensures { result ≡ test_of (profileOf d) check v }
+    ensures { result ≡ test_of (profile_of d) check v }
 {
     match check {
         Check::Total => total_ok(v, d),
@@ -79,7 +79,7 @@ fn passes(check: Check, v: u32, d: PacketDialect) -> bool
 
 // A field of the header, and its test.
 fn checked_at(s: &[u8], at: usize, check: Check, d: PacketDialect) -> Judgement
-    ensures { result ≡ judgeAt (four (always (reasonOf check)) (test_of (profileOf d) check)) at s.now }
+    ensures { result ≡ judge_at (four (always (reason_of check)) (test_of (profile_of d) check)) at s.now }
 {
     let a = form::number(s, at);
     let Judgement::Whole(v, e) = a else {
@@ -93,7 +93,7 @@ fn checked_at(s: &[u8], at: usize, check: Check, d: PacketDialect) -> Judgement
 
 // What follows the total length: three free fields, the object count, the record count, the subframe, the records.
 fn behind_total(s: &[u8], at: usize, l: u32, d: PacketDialect) -> Judgement
-    ensures { result ≡ judgeAt (counted (profileOf d) l) at s.now }
+    ensures { result ≡ judge_at (counted (profile_of d) l) at s.now }
 {
     let a = form::skip_numbers(s, at, 3);
     let Judgement::Whole(_, g) = a else {
@@ -118,7 +118,7 @@ fn behind_total(s: &[u8], at: usize, l: u32, d: PacketDialect) -> Judgement
 
 // The judgement piece by piece, which fits any number of bytes.
 pub fn judge_pieces(bytes: &[u8], d: PacketDialect) -> Judgement
-    ensures { Judges (packet (profileOf d)) 0 bytes.now result }
+    ensures { Judges (packet (profile_of d)) 0 bytes.now result }
 {
     let a = magic_at(bytes, 0);
     let Judgement::Whole(_, g) = a else {

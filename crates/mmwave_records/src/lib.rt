@@ -1,10 +1,10 @@
 // The records of a packet and its padding, judged piece by piece in byte order (paper 01, "mmWave" and "Judging a place"; paper 02, (i) and
 // (vii)).
 ghost use Rattle.std.specs.Prelude.{◌≡◌};
-ghost use Rattle.form.specs.Form.{judgeAt};
+ghost use Rattle.form.specs.Form.{judge_at};
 ghost use Rattle.form.specs.Numbers.{Judges};
 ghost use Rattle.mmwave.specs.Packet.{payload, last, records};
-ghost use Rattle.mmwave.specs.Dialects.{profileOf};
+ghost use Rattle.mmwave.specs.Dialects.{profile_of};
 
 use form::Judgement;
 use mmwave::{PacketDialect, Rule};
@@ -21,7 +21,7 @@ pub const BAD_REPEATED: u32 = 25;
 
 // A record's payload length, by the rule of its type, and its payload: the length, and the offset behind the record.
 fn payload_at(s: &[u8], at: usize, rule: Rule, k: u32, room: u32, d: PacketDialect) -> Judgement
-    ensures { result ≡ judgeAt (payload (profileOf d) rule k room) at s.now }
+    ensures { result ≡ judge_at (payload (profile_of d) rule k room) at s.now }
 {
     let a = form::number(s, at);
     let Judgement::Whole(m, i) = a else {
@@ -39,7 +39,7 @@ fn payload_at(s: &[u8], at: usize, rule: Rule, k: u32, room: u32, d: PacketDiale
 
 // The padding, and with it the packet's end.
 fn padding_at(s: &[u8], at: usize, room: u32, d: PacketDialect) -> Judgement
-    ensures { result ≡ judgeAt (last (profileOf d) room) at s.now }
+    ensures { result ≡ judge_at (last (profile_of d) room) at s.now }
 {
     let a = form::skip(s, at, room as usize);
     let Judgement::Whole(_, e) = a else {
@@ -59,7 +59,7 @@ fn walk_from(
     room: u32,
     d: PacketDialect,
 ) -> Judgement
-    ensures { result ≡ judgeAt (records (profileOf d) objects seen k room) at s.now.now }
+    ensures { result ≡ judge_at (records (profile_of d) objects seen k room) at s.now.now }
 {
     if k == 0 {
         return padding_at(*s, at, room, d);
@@ -93,7 +93,7 @@ pub fn walk(
     room: u32,
     d: PacketDialect,
 ) -> Judgement
-    ensures { Judges (records (profileOf d) objects seen k room) at s.now result }
+    ensures { Judges (records (profile_of d) objects seen k room) at s.now result }
 {
     walk_from(&s, at, objects, seen, k, room, d)
 }

@@ -1,15 +1,15 @@
 // What a record's type says, by the dialect: the payload lengths, and which types exclude one another (paper 01, "mmWave", document 004;
 // paper 02, (i), document 002, and (vii)).
 ghost use Rattle.std.specs.Prelude.{◌≡◌};
-ghost use Rattle.mmwave.specs.MmWave.{perObject, payloadRule, onceMark};
-ghost use Rattle.mmwave.specs.VitalSigns.{vitalRule};
-ghost use Rattle.mmwave.specs.Dialects.{profileOf};
+ghost use Rattle.mmwave.specs.MmWave.{per_object, payload_rule, once_mark};
+ghost use Rattle.mmwave.specs.VitalSigns.{vital_rule};
+ghost use Rattle.mmwave.specs.Dialects.{profile_of};
 
 use mmwave::{PacketDialect, Rule, Unit};
 
 // So many bytes for each object; without objects there is no such record. The product needs 64 bits.
 fn per_object(size: u8, objects: u32) -> Rule
-    ensures { result ≡ perObject size objects }
+    ensures { result ≡ per_object size objects }
 {
     if objects == 0 {
         return Rule::Never;
@@ -19,7 +19,7 @@ fn per_object(size: u8, objects: u32) -> Rule
 }
 
 fn mmwave_rule(tag: u32, objects: u32) -> Rule
-    ensures { result ≡ payloadRule tag objects }
+    ensures { result ≡ payload_rule tag objects }
 {
     match tag {
         1 => per_object(16, objects),
@@ -36,7 +36,7 @@ fn mmwave_rule(tag: u32, objects: u32) -> Rule
 }
 
 fn vital_rule(tag: u32) -> Rule
-    ensures { result ≡ vitalRule tag }
+    ensures { result ≡ vital_rule tag }
 {
     match tag {
         1 => Rule::Exact(24),
@@ -49,7 +49,7 @@ fn vital_rule(tag: u32) -> Rule
 
 // The payload lengths of a record's type.
 pub fn rule_of(tag: u32, objects: u32, d: PacketDialect) -> Rule
-    ensures { result ≡ (profileOf d).rule tag objects }
+    ensures { result ≡ (profile_of d).rule tag objects }
 {
     match d {
         PacketDialect::MmWave => mmwave_rule(tag, objects),
@@ -59,7 +59,7 @@ pub fn rule_of(tag: u32, objects: u32, d: PacketDialect) -> Rule
 
 // A bit for each known type, one for 4 and 8: types with one bit exclude one another. Others have none.
 fn mmwave_mark(tag: u32) -> u32
-    ensures { result ≡ onceMark tag }
+    ensures { result ≡ once_mark tag }
 {
     match tag {
         1 => 2,
@@ -77,7 +77,7 @@ fn mmwave_mark(tag: u32) -> u32
 
 // The bit of a type among those seen; 0 for one that may repeat.
 pub fn mark_of(tag: u32, d: PacketDialect) -> u32
-    ensures { result ≡ (profileOf d).mark tag }
+    ensures { result ≡ (profile_of d).mark tag }
 {
     match d {
         PacketDialect::MmWave => mmwave_mark(tag),

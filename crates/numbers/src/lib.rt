@@ -1,11 +1,11 @@
 // Little-endian 32-bit numbers in bytes, both ways.
 ghost use Rattle.std.specs.Prelude.{◌≡◌, [], ◌∷◌};
-ghost use Rattle.digits.specs.LittleEndian.{fromLittle, word_at};
-ghost use Rattle.digits.specs.Stores.{wordStored};
+ghost use Rattle.digits.specs.LittleEndian.{from_little, word_at};
+ghost use Rattle.digits.specs.Stores.{word_stored};
 
 // The number of four bytes, least significant first.
 pub fn join(a: u8, b: u8, c: u8, d: u8) -> u32
-    ensures { result ≡ fromLittle (a ∷ b ∷ c ∷ d ∷ []) }
+    ensures { result ≡ from_little (a ∷ b ∷ c ∷ d ∷ []) }
 {
     let upper = c as u32 + 256 * (d as u32);
     let middle = b as u32 + 256 * upper;
@@ -27,7 +27,7 @@ pub fn word_at(s: &[u8], at: usize) -> u32
 
 // Lays a 32-bit number over the buffer at an offset; changes nothing where it does not fit.
 pub fn put_word(out: &mut [u8], at: usize, v: u32)
-    ensures { out.new ≡ wordStored out.old at v }
+    ensures { out.new ≡ word_stored out.old at v }
 {
     if out.len() < at {
         return;

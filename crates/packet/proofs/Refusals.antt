@@ -13,9 +13,9 @@ use borrow.Author.Tests.{ltb-true, ltb-false, lt-ltb, le-ltb, eq-eqb, ne_eqb, eq
 use Rattle.digits.specs.LittleEndian.{word_at}
 use Rattle.digits.proofs.Choices.{test, both_ways}
 use Rattle.units.specs.declared.Quantity.{Quantity}
-use Rattle.units.specs.Float.{notFinite, magnitude}
-use Rattle.units.specs.Units.{isEdition, Edition, coordinate, millimetres}
-use Rattle.units.proofs.Theorems.{millimetres-32}
+use Rattle.units.specs.Float.{not_finite, magnitude}
+use Rattle.units.specs.Units.{is_edition, Edition, coordinate, millimetres}
+use Rattle.units.proofs.Theorems.{millimetres_32}
 use Rattle.packet.specs.declared.Found.{Found}
 use Rattle.packet.specs.declared.Found.TheVariants.{At, Missing}
 use Rattle.packet.specs.declared.PacketHeader.{PacketHeader}
@@ -23,28 +23,28 @@ use Rattle.packet.specs.declared.PacketRecord.{PacketRecord}
 use Rattle.packet.specs.declared.PacketStep.{PacketStep}
 use Rattle.packet.specs.declared.PacketPoints.{PacketPoints}
 use Rattle.packet.specs.declared.PacketPoint.{PacketPoint}
-use Rattle.packet.specs.Walk.{objectsOf, recordsOf, recordAt, startsAmong, IsFirst}
-use Rattle.packet.specs.Fields.{isPacket, no_header, headerShown, headerOf}
-use Rattle.packet.specs.Fields.{noRecord, recordShown, recordRead, recordOf, noStep, stepShown, stepRead, step_of}
-use Rattle.packet.specs.Fields.{noPoints, pointsFound, pointRecord, pointsRead, points_of}
-use Rattle.packet.specs.Fields.{noPoint, pointFrom, pointAt, pointFound, pointRead, point_of}
+use Rattle.packet.specs.Walk.{objects_of, records_of, record_at, starts_among, IsFirst}
+use Rattle.packet.specs.Fields.{is_packet, no_header, header_shown, header_of}
+use Rattle.packet.specs.Fields.{no_record, record_shown, record_read, record_of, no_step, step_shown, step_read, step_of}
+use Rattle.packet.specs.Fields.{no_points, points_found, point_record, points_read, points_of}
+use Rattle.packet.specs.Fields.{no_point, point_from, point_at, point_found, point_read, point_of}
 use Rattle.packet.specs.Refusals.{PacketOf, HeaderRefusals, RecordRefusals, StepRefusals, RecordStarts, PointsRefusals, HasPoints}
 use Rattle.packet.specs.Refusals.{Measured, PointThere, PointRefusals}
-use Rattle.packet.proofs.Opened.{packet-exactly}
-use Rattle.packet.proofs.Theorems.{found_first, missing-none, starts-exactly}
+use Rattle.packet.proofs.Opened.{packet_exactly}
+use Rattle.packet.proofs.Theorems.{found_first, missing_none, starts_exactly}
 
 -- -- Any answer behind a test
 
-false-exactly : {t : Bool} {T : Type 0} → (t ≡ true) ↔ T → (t ≡ false) ↔ (T → ⊥)
-false-exactly {t = t} e = (λ f h. both_ways t (e.1 h) f, λ n. test t (λ y. absurd (n (e.0 y))) (λ f. f))
+false_exactly : {t : Bool} {T : Type 0} → (t ≡ true) ↔ T → (t ≡ false) ↔ (T → ⊥)
+false_exactly {t = t} e = (λ f h. both_ways t (e.1 h) f, λ n. test t (λ y. absurd (n (e.0 y))) (λ f. f))
 
 module _ {A : Type 0} (number : A → ℕ) (t : Bool) (yes no : A) (n : ℕ) where
   -- a number of the one answer alone says how the test went
-  first-exactly : number yes ≡ n → (number no ≡ n → ⊥) → (number (cond t yes no) ≡ n) ↔ (t ≡ true)
-  first-exactly e m = test t (λ y. rw y (λ h. refl, λ h. e)) (λ f. rw f (λ h. absurd (m h), λ h. both_ways false h refl))
+  first_exactly : number yes ≡ n → (number no ≡ n → ⊥) → (number (cond t yes no) ≡ n) ↔ (t ≡ true)
+  first_exactly e m = test t (λ y. rw y (λ h. refl, λ h. e)) (λ f. rw f (λ h. absurd (m h), λ h. both_ways false h refl))
 
-  second-exactly : number no ≡ n → (number yes ≡ n → ⊥) → (number (cond t yes no) ≡ n) ↔ (t ≡ false)
-  second-exactly e m = test t (λ y. rw y (λ h. absurd (m h), λ h. both_ways true refl h)) (λ f. rw f (λ h. refl, λ h. e))
+  second_exactly : number no ≡ n → (number yes ≡ n → ⊥) → (number (cond t yes no) ≡ n) ↔ (t ≡ false)
+  second_exactly e m = test t (λ y. rw y (λ h. absurd (m h), λ h. both_ways true refl h)) (λ f. rw f (λ h. refl, λ h. e))
 
   neither : (number yes ≡ n → ⊥) → (number no ≡ n → ⊥) → number (cond t yes no) ≡ n → ⊥
   neither a b h = test t (λ y. a (rw y at h)) (λ f. b (rw f at h))
@@ -53,25 +53,25 @@ module _ {A : Type 0} (number : A → ℕ) (t : Bool) (yes no : A) (n : ℕ) whe
 
 module _ (kind : ℕ) (bs : List ℕ) {A : Type 0} (number : A → ℕ) (read none : A) (five : number none ≡ 5) where
   -- 5 says that the slice is no packet
-  pub five-exactly : (number read ≡ 5 → ⊥) → (number (cond (isPacket kind bs) read none) ≡ 5) ↔ (PacketOf kind bs → ⊥)
-  five-exactly m = Iff.trans (second-exactly number (isPacket kind bs) read none 5 five m) (false-exactly (packet-exactly kind bs))
+  pub five_exactly : (number read ≡ 5 → ⊥) → (number (cond (is_packet kind bs) read none) ≡ 5) ↔ (PacketOf kind bs → ⊥)
+  five_exactly m = Iff.trans (second_exactly number (is_packet kind bs) read none 5 five m) (false_exactly (packet_exactly kind bs))
 
   -- any other number is the answer on a packet
-  pub number-exactly : {T : Type 0} (n : ℕ) → (n ≡ 5 → ⊥) → (number read ≡ n) ↔ T
-      → (number (cond (isPacket kind bs) read none) ≡ n) ↔ (PacketOf kind bs × T)
-  number-exactly n m i = test (isPacket kind bs)
-      (λ y. rw y (λ h. ((packet-exactly kind bs).0 y, i.0 h), λ p. i.1 p.1))
-      (λ f. rw f (λ h. absurd (m (sym h ∙ five)), λ p. both_ways (isPacket kind bs) ((packet-exactly kind bs).1 p.0) f))
+  pub number_exactly : {T : Type 0} (n : ℕ) → (n ≡ 5 → ⊥) → (number read ≡ n) ↔ T
+      → (number (cond (is_packet kind bs) read none) ≡ n) ↔ (PacketOf kind bs × T)
+  number_exactly n m i = test (is_packet kind bs)
+      (λ y. rw y (λ h. ((packet_exactly kind bs).0 y, i.0 h), λ p. i.1 p.1))
+      (λ f. rw f (λ h. absurd (m (sym h ∙ five)), λ p. both_ways (is_packet kind bs) ((packet_exactly kind bs).1 p.0) f))
 
 -- -- The header
 
-pub header-refusals : (kind : ℕ) (bs : List ℕ) → HeaderRefusals kind bs
-unfolding headerOf
-header-refusals kind bs = record {
+pub header_refusals : (kind : ℕ) (bs : List ℕ) → HeaderRefusals kind bs
+unfolding header_of
+header_refusals kind bs = record {
   answers = Iff.trans
-      (number-exactly kind bs number (headerShown bs) (no_header 5) refl 0 (λ e. omega arith) Iff.rfl)
+      (number_exactly kind bs number (header_shown bs) (no_header 5) refl 0 (λ e. omega arith) Iff.rfl)
       (λ p. p.0, λ p. (p, refl));
-  no-packet = five-exactly kind bs number (headerShown bs) (no_header 5) refl (λ e. omega arith);
+  no_packet = five_exactly kind bs number (header_shown bs) (no_header 5) refl (λ e. omega arith);
 }
   where
     number : PacketHeader → ℕ
@@ -79,89 +79,89 @@ header-refusals kind bs = record {
 
 -- -- Records
 
-pub record-refusals : (kind : ℕ) (bs : List ℕ) (j : ℕ) → RecordRefusals kind bs j
-unfolding recordOf recordRead
-record-refusals kind bs j = record {
-  answers = number-exactly kind bs number (recordRead bs j) (noRecord 5) refl 0 (λ e. omega arith)
-      (Iff.trans (first-exactly number below shown (noRecord 6) 0 refl (λ e. omega arith)) (ltb-true j k, lt-ltb j k));
-  no-packet = five-exactly kind bs number (recordRead bs j) (noRecord 5) refl
-      (neither number below shown (noRecord 6) 5 (λ e. omega arith) (λ e. omega arith));
-  over = number-exactly kind bs number (recordRead bs j) (noRecord 5) refl 6 (λ e. omega arith)
-      (Iff.trans (second-exactly number below shown (noRecord 6) 6 refl (λ e. omega arith)) (ltb-false j k, le-ltb j k));
+pub record_refusals : (kind : ℕ) (bs : List ℕ) (j : ℕ) → RecordRefusals kind bs j
+unfolding record_of record_read
+record_refusals kind bs j = record {
+  answers = number_exactly kind bs number (record_read bs j) (no_record 5) refl 0 (λ e. omega arith)
+      (Iff.trans (first_exactly number below shown (no_record 6) 0 refl (λ e. omega arith)) (ltb-true j k, lt-ltb j k));
+  no_packet = five_exactly kind bs number (record_read bs j) (no_record 5) refl
+      (neither number below shown (no_record 6) 5 (λ e. omega arith) (λ e. omega arith));
+  over = number_exactly kind bs number (record_read bs j) (no_record 5) refl 6 (λ e. omega arith)
+      (Iff.trans (second_exactly number below shown (no_record 6) 6 refl (λ e. omega arith)) (ltb-false j k, le-ltb j k));
 }
   where
     number : PacketRecord → ℕ
     number answer = answer.refusal
 
     k : ℕ
-    k = recordsOf bs
+    k = records_of bs
 
     below : Bool
     below = ltb j k
 
     shown : PacketRecord
-    shown = recordShown bs (recordAt bs j 40)
+    shown = record_shown bs (record_at bs j 40)
 
 -- -- Steps
 
-pub step-refusals : (kind : ℕ) (bs : List ℕ) (at : ℕ) → StepRefusals kind bs at
-unfolding step_of stepRead
-step-refusals kind bs at = record {
-  answers = number-exactly kind bs number (stepRead bs at) (noStep at 5) refl 0 (λ e. omega arith)
-      (Iff.trans (first-exactly number here (stepShown bs at) (noStep at 6) 0 refl (λ e. omega arith)) starts);
-  no-packet = five-exactly kind bs number (stepRead bs at) (noStep at 5) refl
-      (neither number here (stepShown bs at) (noStep at 6) 5 (λ e. omega arith) (λ e. omega arith));
-  nowhere = number-exactly kind bs number (stepRead bs at) (noStep at 5) refl 6 (λ e. omega arith)
-      (Iff.trans (second-exactly number here (stepShown bs at) (noStep at 6) 6 refl (λ e. omega arith)) (false-exactly starts));
+pub step_refusals : (kind : ℕ) (bs : List ℕ) (at : ℕ) → StepRefusals kind bs at
+unfolding step_of step_read
+step_refusals kind bs at = record {
+  answers = number_exactly kind bs number (step_read bs at) (no_step at 5) refl 0 (λ e. omega arith)
+      (Iff.trans (first_exactly number here (step_shown bs at) (no_step at 6) 0 refl (λ e. omega arith)) starts);
+  no_packet = five_exactly kind bs number (step_read bs at) (no_step at 5) refl
+      (neither number here (step_shown bs at) (no_step at 6) 5 (λ e. omega arith) (λ e. omega arith));
+  nowhere = number_exactly kind bs number (step_read bs at) (no_step at 5) refl 6 (λ e. omega arith)
+      (Iff.trans (second_exactly number here (step_shown bs at) (no_step at 6) 6 refl (λ e. omega arith)) (false_exactly starts));
 }
   where
     number : PacketStep → ℕ
     number answer = answer.refusal
 
     here : Bool
-    here = startsAmong bs (recordsOf bs) 40 at
+    here = starts_among bs (records_of bs) 40 at
 
-    starts : (startsAmong bs (recordsOf bs) 40 at ≡ true) ↔ RecordStarts bs at
-    starts = starts-exactly bs (recordsOf bs) 40 at
+    starts : (starts_among bs (records_of bs) 40 at ≡ true) ↔ RecordStarts bs at
+    starts = starts_exactly bs (records_of bs) 40 at
 
 -- -- The points
 
-found-has : (bs : List ℕ) (q : ℕ) → pointRecord bs ≡ At q → HasPoints bs
-found-has bs q a = let f = found_first 1 bs (recordsOf bs) 40 q a in (f.0, f.1.below, f.1.here)
+found_has : (bs : List ℕ) (q : ℕ) → point_record bs ≡ At q → HasPoints bs
+found_has bs q a = let f = found_first 1 bs (records_of bs) 40 q a in (f.0, f.1.below, f.1.here)
 
-missing-lacks : (bs : List ℕ) → pointRecord bs ≡ Missing → HasPoints bs → ⊥
-missing-lacks bs m h = missing-none 1 bs (recordsOf bs) 40 m h.0 h.1 h.2
+missing_lacks : (bs : List ℕ) → point_record bs ≡ Missing → HasPoints bs → ⊥
+missing_lacks bs m h = missing_none 1 bs (records_of bs) 40 m h.0 h.1 h.2
 
-pub points-refusals : (bs : List ℕ) → PointsRefusals bs
+pub points_refusals : (bs : List ℕ) → PointsRefusals bs
 unfolding points_of
-points-refusals bs = record {
-  answers = number-exactly 16 bs number (pointsRead bs) (noPoints 5) refl 0 (λ e. omega arith) (zero-exactly (pointRecord bs) refl);
-  no-packet = five-exactly 16 bs number (pointsRead bs) (noPoints 5) refl (not_five (pointRecord bs));
-  none = number-exactly 16 bs number (pointsRead bs) (noPoints 5) refl 7 (λ e. omega arith) (seven-exactly (pointRecord bs) refl);
+points_refusals bs = record {
+  answers = number_exactly 16 bs number (points_read bs) (no_points 5) refl 0 (λ e. omega arith) (zero_exactly (point_record bs) refl);
+  no_packet = five_exactly 16 bs number (points_read bs) (no_points 5) refl (not_five (point_record bs));
+  none = number_exactly 16 bs number (points_read bs) (no_points 5) refl 7 (λ e. omega arith) (seven_exactly (point_record bs) refl);
 }
   where
     number : PacketPoints → ℕ
     number answer = answer.refusal
 
-    zero-exactly : (f : Found) → pointRecord bs ≡ f → ((pointsFound (objectsOf bs) f).refusal ≡ 0) ↔ HasPoints bs
-    zero-exactly (At q) a = (λ h. found-has bs q a, λ h. refl)
-    zero-exactly Missing m = (λ h. absurd (omega arith), λ h. absurd (missing-lacks bs m h))
+    zero_exactly : (f : Found) → point_record bs ≡ f → ((points_found (objects_of bs) f).refusal ≡ 0) ↔ HasPoints bs
+    zero_exactly (At q) a = (λ h. found_has bs q a, λ h. refl)
+    zero_exactly Missing m = (λ h. absurd (omega arith), λ h. absurd (missing_lacks bs m h))
 
-    seven-exactly : (f : Found) → pointRecord bs ≡ f → ((pointsFound (objectsOf bs) f).refusal ≡ 7) ↔ (HasPoints bs → ⊥)
-    seven-exactly (At q) a = (λ h. absurd (omega arith), λ n. absurd (n (found-has bs q a)))
-    seven-exactly Missing m = (λ h. missing-lacks bs m, λ n. refl)
+    seven_exactly : (f : Found) → point_record bs ≡ f → ((points_found (objects_of bs) f).refusal ≡ 7) ↔ (HasPoints bs → ⊥)
+    seven_exactly (At q) a = (λ h. absurd (omega arith), λ n. absurd (n (found_has bs q a)))
+    seven_exactly Missing m = (λ h. missing_lacks bs m, λ n. refl)
 
-    not_five : (f : Found) → (pointsFound (objectsOf bs) f).refusal ≡ 5 → ⊥
+    not_five : (f : Found) → (points_found (objects_of bs) f).refusal ≡ 5 → ⊥
     not_five (At q) h = omega arith
     not_five Missing h = omega arith
 
 -- -- A point
 
 -- a coordinate refuses 30 or more
-coordinate-number : (edition b : ℕ) → ((millimetres edition b).refusal ≡ 0 → ⊥) → 30 ≤ (millimetres edition b).refusal
+coordinate_number : (edition b : ℕ) → ((millimetres edition b).refusal ≡ 0 → ⊥) → 30 ≤ (millimetres edition b).refusal
 unfolding millimetres coordinate
-coordinate-number edition b n = test (isEdition edition)
-    (λ e. test (notFinite b)
+coordinate_number edition b n = test (is_edition edition)
+    (λ e. test (not_finite b)
     (λ y. rw (e, y) (omega arith))
     (λ f. test (ltb (1000 * 2 ^ 150) (magnitude b)) (λ y. rw (e, f, y) (omega arith)) (λ g. absurd (n (rw (e, f, g) refl)))))
     (λ e. rw e (omega arith))
@@ -178,26 +178,26 @@ module _ (edition : ℕ) (bs : List ℕ) (p : ℕ) where
   z = millimetres edition (word_at bs (p + 8))
 
   -- a point refuses 30 or more
-  point-number : ((pointAt edition bs p).refusal ≡ 0 → ⊥) → 30 ≤ (pointAt edition bs p).refusal
-  unfolding pointAt pointFrom
-  point-number n = test (eqb x.refusal 0)
+  point_number : ((point_at edition bs p).refusal ≡ 0 → ⊥) → 30 ≤ (point_at edition bs p).refusal
+  unfolding point_at point_from
+  point_number n = test (eqb x.refusal 0)
       (λ a. test (eqb y.refusal 0)
       (λ b. test (eqb z.refusal 0)
       (λ c. absurd (n (rw (a, b, c) refl)))
-      (λ c. rw (a, b, c) (coordinate-number edition (word_at bs (p + 8)) (eqb-false z.refusal 0 c))))
-      (λ b. rw (a, b) (coordinate-number edition (word_at bs (p + 4)) (eqb-false y.refusal 0 b))))
-      (λ a. rw a (coordinate-number edition (word_at bs p) (eqb-false x.refusal 0 a)))
+      (λ c. rw (a, b, c) (coordinate_number edition (word_at bs (p + 8)) (eqb-false z.refusal 0 c))))
+      (λ b. rw (a, b) (coordinate_number edition (word_at bs (p + 4)) (eqb-false y.refusal 0 b))))
+      (λ a. rw a (coordinate_number edition (word_at bs p) (eqb-false x.refusal 0 a)))
 
   -- that is, no number between
-  point-not : (n : ℕ) → 0 < n → n < 30 → (pointAt edition bs p).refusal ≡ n → ⊥
-  point-not n a b h = let l = point-number (λ e. omega arith) in omega arith
+  point_not : (n : ℕ) → 0 < n → n < 30 → (point_at edition bs p).refusal ≡ n → ⊥
+  point_not n a b h = let l = point_number (λ e. omega arith) in omega arith
 
   -- and none exactly if its three coordinates have values
-  measured-exactly : ((pointAt edition bs p).refusal ≡ 0) ↔ Measured edition bs p
-  unfolding pointAt pointFrom
-  measured-exactly = (to, λ m. rw (eq-eqb x.refusal 0 m.x, eq-eqb y.refusal 0 m.y, eq-eqb z.refusal 0 m.z) refl)
+  measured_exactly : ((point_at edition bs p).refusal ≡ 0) ↔ Measured edition bs p
+  unfolding point_at point_from
+  measured_exactly = (to, λ m. rw (eq-eqb x.refusal 0 m.x, eq-eqb y.refusal 0 m.y, eq-eqb z.refusal 0 m.z) refl)
     where
-      to : (pointAt edition bs p).refusal ≡ 0 → Measured edition bs p
+      to : (point_at edition bs p).refusal ≡ 0 → Measured edition bs p
       to h = test (eqb x.refusal 0)
           (λ a. test (eqb y.refusal 0)
           (λ b. test (eqb z.refusal 0)
@@ -207,22 +207,22 @@ module _ (edition : ℕ) (bs : List ℕ) (p : ℕ) where
           (λ a. absurd (eqb-false x.refusal 0 a (rw a at h)))
 
   -- 32 exactly if there is no such edition: then X is refused with it
-  unnamed-exactly : ((pointAt edition bs p).refusal ≡ 32) ↔ (Edition edition → ⊥)
-  unfolding pointAt pointFrom
-  unnamed-exactly = (to, λ n. let e = (millimetres-32 edition (word_at bs p)).1 n in rw (ne_eqb x.refusal 0 (λ f. omega arith)) e)
+  unnamed_exactly : ((point_at edition bs p).refusal ≡ 32) ↔ (Edition edition → ⊥)
+  unfolding point_at point_from
+  unnamed_exactly = (to, λ n. let e = (millimetres_32 edition (word_at bs p)).1 n in rw (ne_eqb x.refusal 0 (λ f. omega arith)) e)
     where
-      to : (pointAt edition bs p).refusal ≡ 32 → Edition edition → ⊥
+      to : (point_at edition bs p).refusal ≡ 32 → Edition edition → ⊥
       to h = test (eqb x.refusal 0)
           (λ a. test (eqb y.refusal 0)
           (λ b. test (eqb z.refusal 0)
           (λ c. let e : ◌≡◌ {A = ℕ} 0 32 = rw (a, b, c) at h in absurd (omega arith))
-          (λ c. (millimetres-32 edition (word_at bs (p + 8))).0 (rw (a, b, c) at h)))
-          (λ b. (millimetres-32 edition (word_at bs (p + 4))).0 (rw (a, b) at h)))
-          (λ a. (millimetres-32 edition (word_at bs p)).0 (rw a at h))
+          (λ c. (millimetres_32 edition (word_at bs (p + 8))).0 (rw (a, b, c) at h)))
+          (λ b. (millimetres_32 edition (word_at bs (p + 4))).0 (rw (a, b) at h)))
+          (λ a. (millimetres_32 edition (word_at bs p)).0 (rw a at h))
 
 -- one record alone is the first of a type
-first-once : {type : ℕ} {bs : List ℕ} {k p i j : ℕ} → IsFirst type bs k p i → IsFirst type bs k p j → i ≡ j
-first-once {i = i} {j = j} f g = go (dec_lt i j) (dec_lt j i)
+first_once : {type : ℕ} {bs : List ℕ} {k p i j : ℕ} → IsFirst type bs k p i → IsFirst type bs k p j → i ≡ j
+first_once {i = i} {j = j} f g = go (dec_lt i j) (dec_lt j i)
   where
     go : Dec (i < j) → Dec (j < i) → i ≡ j
     go (yes l) d = absurd (g.before i l f.here)
@@ -231,79 +231,79 @@ first-once {i = i} {j = j} f g = go (dec_lt i j) (dec_lt j i)
 
 module _ (edition : ℕ) (bs : List ℕ) (i : ℕ) where
   abbrev found : Found → ℕ
-  found f = (pointFound edition bs (objectsOf bs) i f).refusal
+  found f = (point_found edition bs (objects_of bs) i f).refusal
 
   -- a number below 30 that only the index gives
-  six-exactly : (f : Found) → pointRecord bs ≡ f → (found f ≡ 6) ↔ (HasPoints bs × (objectsOf bs ≤ i))
-  six-exactly (At q) a = Iff.trans
-      (second-exactly (λ (x : PacketPoint). x.refusal) (ltb i (objectsOf bs)) (pointAt edition bs (q + 8 + 16 * i)) (noPoint 6) 6 refl
-      (point-not edition bs (q + 8 + 16 * i) 6 (omega arith) (omega arith)))
-      (λ h. (found-has bs q a, ltb-false i (objectsOf bs) h), λ h. le-ltb i (objectsOf bs) h.1)
-  six-exactly Missing m = (λ h. absurd (omega arith), λ h. absurd (missing-lacks bs m h.0))
+  six_exactly : (f : Found) → point_record bs ≡ f → (found f ≡ 6) ↔ (HasPoints bs × (objects_of bs ≤ i))
+  six_exactly (At q) a = Iff.trans
+      (second_exactly (λ (x : PacketPoint). x.refusal) (ltb i (objects_of bs)) (point_at edition bs (q + 8 + 16 * i)) (no_point 6) 6 refl
+      (point_not edition bs (q + 8 + 16 * i) 6 (omega arith) (omega arith)))
+      (λ h. (found_has bs q a, ltb-false i (objects_of bs) h), λ h. le-ltb i (objects_of bs) h.1)
+  six_exactly Missing m = (λ h. absurd (omega arith), λ h. absurd (missing_lacks bs m h.0))
 
-  not-of-record : (q n : ℕ) → 0 < n → n < 30 → (n ≡ 6 → ⊥) → found (At q) ≡ n → ⊥
-  not-of-record q n a b m =
-      neither (λ (x : PacketPoint). x.refusal) (ltb i (objectsOf bs)) (pointAt edition bs (q + 8 + 16 * i)) (noPoint 6) n
-      (point-not edition bs (q + 8 + 16 * i) n a b) (λ e. m (sym e))
+  not_of_record : (q n : ℕ) → 0 < n → n < 30 → (n ≡ 6 → ⊥) → found (At q) ≡ n → ⊥
+  not_of_record q n a b m =
+      neither (λ (x : PacketPoint). x.refusal) (ltb i (objects_of bs)) (point_at edition bs (q + 8 + 16 * i)) (no_point 6) n
+      (point_not edition bs (q + 8 + 16 * i) n a b) (λ e. m (sym e))
 
-  seven-exactly : (f : Found) → pointRecord bs ≡ f → (found f ≡ 7) ↔ (HasPoints bs → ⊥)
-  seven-exactly (At q) a =
-      (λ h. absurd (not-of-record q 7 (omega arith) (omega arith) (λ e. omega arith) h), λ n. absurd (n (found-has bs q a)))
-  seven-exactly Missing m = (λ h. missing-lacks bs m, λ n. refl)
+  seven_exactly : (f : Found) → point_record bs ≡ f → (found f ≡ 7) ↔ (HasPoints bs → ⊥)
+  seven_exactly (At q) a =
+      (λ h. absurd (not_of_record q 7 (omega arith) (omega arith) (λ e. omega arith) h), λ n. absurd (n (found_has bs q a)))
+  seven_exactly Missing m = (λ h. missing_lacks bs m, λ n. refl)
 
   not_five : (f : Found) → found f ≡ 5 → ⊥
-  not_five (At q) h = not-of-record q 5 (omega arith) (omega arith) (λ e. omega arith) h
+  not_five (At q) h = not_of_record q 5 (omega arith) (omega arith) (λ e. omega arith) h
   not_five Missing h = omega arith
 
-  unnamed : (f : Found) → pointRecord bs ≡ f → (found f ≡ 32) ↔ (HasPoints bs × (i < objectsOf bs) × (Edition edition → ⊥))
-  unnamed Missing m = (λ h. absurd (omega arith), λ h. absurd (missing-lacks bs m h.0))
+  unnamed : (f : Found) → point_record bs ≡ f → (found f ≡ 32) ↔ (HasPoints bs × (i < objects_of bs) × (Edition edition → ⊥))
+  unnamed Missing m = (λ h. absurd (omega arith), λ h. absurd (missing_lacks bs m h.0))
   unnamed (At q) a = (to, from)
     where
-      to : (cond (ltb i (objectsOf bs)) (pointAt edition bs (q + 8 + 16 * i)) (noPoint 6)).refusal ≡ 32
-          → HasPoints bs × (i < objectsOf bs) × (Edition edition → ⊥)
-      to h = test (ltb i (objectsOf bs))
-          (λ l. (found-has bs q a, ltb-true i (objectsOf bs) l, (unnamed-exactly edition bs (q + 8 + 16 * i)).0 (rw l at h)))
+      to : (cond (ltb i (objects_of bs)) (point_at edition bs (q + 8 + 16 * i)) (no_point 6)).refusal ≡ 32
+          → HasPoints bs × (i < objects_of bs) × (Edition edition → ⊥)
+      to h = test (ltb i (objects_of bs))
+          (λ l. (found_has bs q a, ltb-true i (objects_of bs) l, (unnamed_exactly edition bs (q + 8 + 16 * i)).0 (rw l at h)))
           (λ n. let e : ◌≡◌ {A = ℕ} 6 32 = rw n at h in absurd (omega arith))
 
-      from : HasPoints bs × (i < objectsOf bs) × (Edition edition → ⊥)
-          → (cond (ltb i (objectsOf bs)) (pointAt edition bs (q + 8 + 16 * i)) (noPoint 6)).refusal ≡ 32
-      from h = rw (lt-ltb i (objectsOf bs) h.1) ((unnamed-exactly edition bs (q + 8 + 16 * i)).1 h.2)
+      from : HasPoints bs × (i < objects_of bs) × (Edition edition → ⊥)
+          → (cond (ltb i (objects_of bs)) (point_at edition bs (q + 8 + 16 * i)) (no_point 6)).refusal ≡ 32
+      from h = rw (lt-ltb i (objects_of bs) h.1) ((unnamed_exactly edition bs (q + 8 + 16 * i)).1 h.2)
 
-  zero-exactly : (f : Found) → pointRecord bs ≡ f → (found f ≡ 0) ↔ PointThere edition bs i
-  zero-exactly Missing m =
-      (λ h. absurd (omega arith), λ t. absurd (missing-lacks bs m (t.place, t.first.below, t.first.here)))
-  zero-exactly (At q) a = (to, from)
+  zero_exactly : (f : Found) → point_record bs ≡ f → (found f ≡ 0) ↔ PointThere edition bs i
+  zero_exactly Missing m =
+      (λ h. absurd (omega arith), λ t. absurd (missing_lacks bs m (t.place, t.first.below, t.first.here)))
+  zero_exactly (At q) a = (to, from)
     where
-      first : (j : ℕ) × IsFirst 1 bs (recordsOf bs) 40 j × (q ≡ recordAt bs j 40)
-      first = found_first 1 bs (recordsOf bs) 40 q a
+      first : (j : ℕ) × IsFirst 1 bs (records_of bs) 40 j × (q ≡ record_at bs j 40)
+      first = found_first 1 bs (records_of bs) 40 q a
 
-      to : (cond (ltb i (objectsOf bs)) (pointAt edition bs (q + 8 + 16 * i)) (noPoint 6)).refusal ≡ 0 → PointThere edition bs i
-      to h = test (ltb i (objectsOf bs))
+      to : (cond (ltb i (objects_of bs)) (point_at edition bs (q + 8 + 16 * i)) (no_point 6)).refusal ≡ 0 → PointThere edition bs i
+      to h = test (ltb i (objects_of bs))
           (λ l. record {
             place = first.0;
             first = first.1;
-            below = ltb-true i (objectsOf bs) l;
-            measured = rw first.2 at ((measured-exactly edition bs (q + 8 + 16 * i)).0 (rw l at h));
+            below = ltb-true i (objects_of bs) l;
+            measured = rw first.2 at ((measured_exactly edition bs (q + 8 + 16 * i)).0 (rw l at h));
           })
           (λ n. let e : ◌≡◌ {A = ℕ} 6 0 = rw n at h in absurd (omega arith))
 
-      from : PointThere edition bs i → (cond (ltb i (objectsOf bs)) (pointAt edition bs (q + 8 + 16 * i)) (noPoint 6)).refusal ≡ 0
+      from : PointThere edition bs i → (cond (ltb i (objects_of bs)) (point_at edition bs (q + 8 + 16 * i)) (no_point 6)).refusal ≡ 0
       from t =
-          let e : recordAt bs t.place 40 ≡ q = ap (λ (j : ℕ). recordAt bs j 40) (first-once t.first first.1) ∙ sym first.2 in
-          rw (lt-ltb i (objectsOf bs) t.below) ((measured-exactly edition bs (q + 8 + 16 * i)).1 (rw e at t.measured))
+          let e : record_at bs t.place 40 ≡ q = ap (λ (j : ℕ). record_at bs j 40) (first_once t.first first.1) ∙ sym first.2 in
+          rw (lt-ltb i (objects_of bs) t.below) ((measured_exactly edition bs (q + 8 + 16 * i)).1 (rw e at t.measured))
 
-pub point-refusals : (edition : ℕ) (bs : List ℕ) (i : ℕ) → PointRefusals edition bs i
+pub point_refusals : (edition : ℕ) (bs : List ℕ) (i : ℕ) → PointRefusals edition bs i
 unfolding point_of
-point-refusals edition bs i = record {
-  answers = number-exactly 16 bs number read (noPoint 5) refl 0 (λ e. omega arith) (zero-exactly edition bs i (pointRecord bs) refl);
-  no-packet = five-exactly 16 bs number read (noPoint 5) refl (not_five edition bs i (pointRecord bs));
-  none = number-exactly 16 bs number read (noPoint 5) refl 7 (λ e. omega arith) (seven-exactly edition bs i (pointRecord bs) refl);
-  over = number-exactly 16 bs number read (noPoint 5) refl 6 (λ e. omega arith) (six-exactly edition bs i (pointRecord bs) refl);
-  no-edition = number-exactly 16 bs number read (noPoint 5) refl 32 (λ e. omega arith) (unnamed edition bs i (pointRecord bs) refl);
+point_refusals edition bs i = record {
+  answers = number_exactly 16 bs number read (no_point 5) refl 0 (λ e. omega arith) (zero_exactly edition bs i (point_record bs) refl);
+  no_packet = five_exactly 16 bs number read (no_point 5) refl (not_five edition bs i (point_record bs));
+  none = number_exactly 16 bs number read (no_point 5) refl 7 (λ e. omega arith) (seven_exactly edition bs i (point_record bs) refl);
+  over = number_exactly 16 bs number read (no_point 5) refl 6 (λ e. omega arith) (six_exactly edition bs i (point_record bs) refl);
+  no_edition = number_exactly 16 bs number read (no_point 5) refl 32 (λ e. omega arith) (unnamed edition bs i (point_record bs) refl);
 }
   where
     read : PacketPoint
-    read = pointRead edition bs i
+    read = point_read edition bs i
 
     number : PacketPoint → ℕ
     number answer = answer.refusal

@@ -1,7 +1,7 @@
 // The records of one whole packet of the kind named, and a cursor over them (paper 01, "Fields"; paper 02, (i)).
 ghost use Rattle.std.specs.Prelude.{◌≡◌, suc, ◌≤◌};
-ghost use Rattle.packet.specs.Walk.{recordsOf, end_at, recordAt, startsAmong};
-ghost use Rattle.packet.specs.Fields.{noRecord, recordShown, recordRead, RecordShown, noStep, stepShown, stepRead, StepShown};
+ghost use Rattle.packet.specs.Walk.{records_of, end_at, record_at, starts_among};
+ghost use Rattle.packet.specs.Fields.{no_record, record_shown, record_read, RecordShown, no_step, step_shown, step_read, StepShown};
 ghost use Rattle.packet.specs.Internal.{Walkable};
 
 use form::Judgement;
@@ -22,7 +22,7 @@ fn behind(s: &[u8], p: usize) -> usize
 // The offset of record `j`, counted from the one at `p`.
 fn place(s: &[u8], p: usize, j: usize) -> usize
     requires { Walkable s.now (suc j) p }
-    ensures { result ≡ recordAt s.now j p }
+    ensures { result ≡ record_at s.now j p }
 {
     if j == 0 {
         return p;
@@ -34,7 +34,7 @@ fn place(s: &[u8], p: usize, j: usize) -> usize
 // Does one of the `k` records from `p` on start at `at`?
 fn starts(s: &[u8], p: usize, k: u32, at: usize) -> bool
     requires { Walkable s.now k p }
-    ensures { result ≡ startsAmong s.now k p at }
+    ensures { result ≡ starts_among s.now k p at }
 {
     if k == 0 {
         return false;
@@ -49,7 +49,7 @@ fn starts(s: &[u8], p: usize, k: u32, at: usize) -> bool
 // -- Records
 
 fn no_record(refusal: u32) -> PacketRecord
-    ensures { result ≡ noRecord refusal }
+    ensures { result ≡ no_record refusal }
 {
     PacketRecord {
         refusal,
@@ -62,7 +62,7 @@ fn no_record(refusal: u32) -> PacketRecord
 // The record that starts at `p`.
 fn record_from(s: &[u8], p: usize) -> PacketRecord
     requires { p ≤ 32768 }
-    ensures { result ≡ recordShown s.now p }
+    ensures { result ≡ record_shown s.now p }
 {
     let tag = numbers::word_at(s, p);
     let length = payload_length(s, p) as usize;
@@ -77,8 +77,8 @@ fn record_from(s: &[u8], p: usize) -> PacketRecord
 
 // Record `index` of a packet.
 fn read_record(s: &[u8], index: usize) -> PacketRecord
-    requires { Walkable s.now (recordsOf s.now) 40 }
-    ensures { result ≡ recordRead s.now index }
+    requires { Walkable s.now (records_of s.now) 40 }
+    ensures { result ≡ record_read s.now index }
 {
     let records = numbers::word_at(s, Header::RECORDS) as usize;
     if records <= index {
@@ -111,7 +111,7 @@ pub fn record(kind: u32, packet: &[u8], index: usize) -> PacketRecord
 // -- The cursor
 
 fn no_step(at: usize, refusal: u32) -> PacketStep
-    ensures { result ≡ noStep at refusal }
+    ensures { result ≡ no_step at refusal }
 {
     PacketStep {
         refusal,
@@ -125,7 +125,7 @@ fn no_step(at: usize, refusal: u32) -> PacketStep
 // The step over the record that starts at `p`.
 fn step_from(s: &[u8], p: usize) -> PacketStep
     requires { p ≤ 32768 }
-    ensures { result ≡ stepShown s.now p }
+    ensures { result ≡ step_shown s.now p }
 {
     let shown = record_from(s, p);
     let at = behind(s, p);
@@ -140,8 +140,8 @@ fn step_from(s: &[u8], p: usize) -> PacketStep
 
 // The step from `at` in a packet.
 fn read_step(s: &[u8], at: usize) -> PacketStep
-    requires { Walkable s.now (recordsOf s.now) 40 }
-    ensures { result ≡ stepRead s.now at }
+    requires { Walkable s.now (records_of s.now) 40 }
+    ensures { result ≡ step_read s.now at }
 {
     let records = numbers::word_at(s, Header::RECORDS);
     if starts(s, Header::SIZE, records, at) {

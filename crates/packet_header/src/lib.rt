@@ -1,7 +1,7 @@
 // The header of one whole packet of the kind named, and the payload length in a record's header (paper 01, "Fields"; paper 02, (i)).
 ghost use Rattle.std.specs.Prelude.{◌≡◌};
 ghost use Rattle.packet.specs.Walk.{length_at};
-ghost use Rattle.packet.specs.Fields.{dialectNamed, no_header, headerShown, headerOf};
+ghost use Rattle.packet.specs.Fields.{dialect_named, no_header, header_shown, header_of};
 
 use form::Judgement;
 use mmwave::{Header, PacketDialect};
@@ -20,7 +20,7 @@ const LENGTH_FIELD: usize = 4;
 
 // The dialect whose packets have this kind.
 pub fn dialect_named(kind: u32) -> NamedKind
-    ensures { result ≡ dialectNamed kind }
+    ensures { result ≡ dialect_named kind }
 {
     if kind == KIND {
         return NamedKind::Packets(PacketDialect::MmWave);
@@ -54,7 +54,7 @@ fn no_header() -> PacketHeader
 
 // The eight words at their offsets.
 fn read_header(s: &[u8]) -> PacketHeader
-    ensures { result ≡ headerShown s.now }
+    ensures { result ≡ header_shown s.now }
 {
     let fields = Header {
         version: numbers::word_at(s, Header::VERSION),
@@ -71,7 +71,7 @@ fn read_header(s: &[u8]) -> PacketHeader
 
 // The header's eight fields, or 5 if the slice is not exactly one whole packet of this kind, 16 or 17.
 pub fn header(kind: u32, packet: &[u8]) -> PacketHeader
-    ensures { result ≡ headerOf kind packet.now }
+    ensures { result ≡ header_of kind packet.now }
 {
     let NamedKind::Packets(d) = dialect_named(kind) else {
         return no_header();

@@ -3,5 +3,5 @@ use Rattle.std.specs.Prelude.{cond, List, [], ℕ, ◌+◌, leb, length, take, d
 use Rattle.packet.specs.declared.PacketRecord.{PacketRecord}
 
 -- the part that the record names as its payload; empty where the bytes have no such part
-unfoldable pub partOf : List ℕ → PacketRecord → List ℕ
-partOf bs r = cond (leb (r.start + r.length) (length bs)) (take r.length (drop r.start bs)) []
+unfoldable pub part_of : List ℕ → PacketRecord → List ℕ
+part_of bs r = cond (leb (r.start + r.length) (length bs)) (take r.length (drop r.start bs)) []

@@ -3,7 +3,7 @@
 ghost use Rattle.std.specs.Prelude.{◌≡◌};
 ghost use Rattle.packet.specs.Fields.{RecordShown};
 ghost use Rattle.packet_parts.specs.Parts.{PartShown};
-ghost use Rattle.packet_parts.specs.Internal.{partOf};
+ghost use Rattle.packet_parts.specs.Internal.{part_of};
 
 use packet::PacketRecord;
 use packet_reader::PacketReader;
@@ -25,7 +25,7 @@ fn record_at(kind: u32, bytes: &[u8], index: usize) -> PacketRecord
 
 // The part of the slice that a record names as its payload; empty where the slice has no such part.
 fn part_of<'a>(bytes: &'a [u8], shown: PacketRecord) -> &'a [u8]
-    ensures { result.now ≡ partOf bytes.now shown }
+    ensures { result.now ≡ part_of bytes.now shown }
 {
     let start = shown.start;
     let length = shown.length;

@@ -16,163 +16,163 @@ use Rattle.mmwave.specs.declared.PacketDialect.TheVariants.{MmWave}
 use Rattle.packet.specs.declared.Found.{Found}
 use Rattle.packet.specs.declared.Found.TheVariants.{At, Missing}
 use Rattle.packet.specs.declared.PacketPoint.{PacketPoint}
-use Rattle.packet.specs.Fields.{isPacket, pointRecord, points_of, point_of}
-use Rattle.packet.specs.Walk.{objectsOf}
+use Rattle.packet.specs.Fields.{is_packet, point_record, points_of, point_of}
+use Rattle.packet.specs.Walk.{objects_of}
 use Rattle.reading.specs.declared.Row.{Row}
 use Rattle.reading.specs.Leftmost.{Leftmost}
 use Rattle.reading.proofs.Rows.{rows_fit}
 use Rattle.capture.specs.declared.Dialect.{Dialect}
 use Rattle.capture.specs.declared.Dialect.TheVariants.{Packets}
-use Rattle.capture.specs.Dialects.{judgeOf}
+use Rattle.capture.specs.Dialects.{judge_of}
 use Rattle.capture.specs.Demands.{StandsIn}
-use Rattle.capture.specs.Entries.{maxBytes}
-use Rattle.capture.specs.Lines.{closedRows}
-use Rattle.capture.proofs.Demands.{closed-is-leftmost}
-use Rattle.capture.proofs.LineLaws.{closed-rows-first}
-use Rattle.capture.proofs.Wires.{lawful-of}
-use Rattle.units.specs.Units.{isEdition}
-use Rattle.units.proofs.Theorems.{edition-exactly, no-edition}
-use Rattle.coordinate_bounds.specs.Bounds.{maxDistance}
+use Rattle.capture.specs.Entries.{max_bytes}
+use Rattle.capture.specs.Lines.{closed_rows}
+use Rattle.capture.proofs.Demands.{closed_is_leftmost}
+use Rattle.capture.proofs.LineLaws.{closed_rows_first}
+use Rattle.capture.proofs.Wires.{lawful_of}
+use Rattle.units.specs.Units.{is_edition}
+use Rattle.units.proofs.Theorems.{edition_exactly, no_edition}
+use Rattle.coordinate_bounds.specs.Bounds.{max_distance}
 use Rattle.proximity.specs.declared.Closeness.{Closeness}
-use Rattle.proximity.specs.Proximity.{refused, closeAt, nobody, isClose, firstClose, closePoint}
-use Rattle.proximity.specs.Proximity.{frame_of, orLater, firstIn, packetRows, closeness}
-use Rattle.proximity.proofs.SearchLaws.{refusalBy, answerBy, answer-refused}
+use Rattle.proximity.specs.Proximity.{refused, close_at, nobody, is_close, first_close, close_point}
+use Rattle.proximity.specs.Proximity.{frame_of, or_later, first_in, packet_rows, closeness}
+use Rattle.proximity.proofs.SearchLaws.{refusal_by, answer_by, answer_refused}
 use Rattle.proximity.specs.Sentences as say
 use Rattle.proximity.specs.Sentences.{Close, CloseIn, NoneClose, FirstClose, NobodyIn, FirstCloseIn}
 
 -- -- Refusals, by four tests
 
 -- the refusal by the tests of the dialect, the size, the edition and the distance, and the answer by them
-abbrev numberBy : Bool → Bool → Bool → Bool → ℕ
-numberBy mmwave long legal far = cond mmwave (cond long 3 (refusalBy legal far)) 1
+abbrev number_by : Bool → Bool → Bool → Bool → ℕ
+number_by mmwave long legal far = cond mmwave (cond long 3 (refusal_by legal far)) 1
 
 abbrev call_by : Bool → Bool → Bool → Bool → Closeness → Closeness
-call_by mmwave long legal far a = cond mmwave (cond long (refused 3) (answerBy legal far a)) (refused 1)
+call_by mmwave long legal far a = cond mmwave (cond long (refused 3) (answer_by legal far a)) (refused 1)
 
-number_is : (m l e f : Bool) (a : Closeness) → a.refusal ≡ 0 → (call_by m l e f a).refusal ≡ numberBy m l e f
+number_is : (m l e f : Bool) (a : Closeness) → a.refusal ≡ 0 → (call_by m l e f a).refusal ≡ number_by m l e f
 number_is false l e f a h = refl
 number_is true true e f a h = refl
 number_is true false false f a h = refl
 number_is true false true true a h = refl
 number_is true false true false a h = h
 
-zeros-else : (m l e f : Bool) (a : Closeness) → (numberBy m l e f ≡ 0 → ⊥) → call_by m l e f a ≡ refused (numberBy m l e f)
-zeros-else false l e f a n = refl
-zeros-else true true e f a n = refl
-zeros-else true false e f a n = sym (answer-refused e f a n)
+zeros_else : (m l e f : Bool) (a : Closeness) → (number_by m l e f ≡ 0 → ⊥) → call_by m l e f a ≡ refused (number_by m l e f)
+zeros_else false l e f a n = refl
+zeros_else true true e f a n = refl
+zeros_else true false e f a n = sym (answer_refused e f a n)
 
-told-0 : (m l e f : Bool) → numberBy m l e f ≡ 0 → (m ≡ true) × (l ≡ false) × (e ≡ true) × (f ≡ false)
-told-0 false l e f h = absurd (omega arith)
-told-0 true true e f h = absurd (omega arith)
-told-0 true false false f h = absurd (omega arith)
-told-0 true false true true h = absurd (omega arith)
-told-0 true false true false h = (refl, refl, refl, refl)
+told_0 : (m l e f : Bool) → number_by m l e f ≡ 0 → (m ≡ true) × (l ≡ false) × (e ≡ true) × (f ≡ false)
+told_0 false l e f h = absurd (omega arith)
+told_0 true true e f h = absurd (omega arith)
+told_0 true false false f h = absurd (omega arith)
+told_0 true false true true h = absurd (omega arith)
+told_0 true false true false h = (refl, refl, refl, refl)
 
-told-1 : (m l e f : Bool) → numberBy m l e f ≡ 1 → m ≡ false
-told-1 false l e f h = refl
-told-1 true true e f h = absurd (omega arith)
-told-1 true false false f h = absurd (omega arith)
-told-1 true false true true h = absurd (omega arith)
-told-1 true false true false h = absurd (omega arith)
+told_1 : (m l e f : Bool) → number_by m l e f ≡ 1 → m ≡ false
+told_1 false l e f h = refl
+told_1 true true e f h = absurd (omega arith)
+told_1 true false false f h = absurd (omega arith)
+told_1 true false true true h = absurd (omega arith)
+told_1 true false true false h = absurd (omega arith)
 
-told-3 : (m l e f : Bool) → numberBy m l e f ≡ 3 → (m ≡ true) × (l ≡ true)
-told-3 false l e f h = absurd (omega arith)
-told-3 true true e f h = (refl, refl)
-told-3 true false false f h = absurd (omega arith)
-told-3 true false true true h = absurd (omega arith)
-told-3 true false true false h = absurd (omega arith)
+told_3 : (m l e f : Bool) → number_by m l e f ≡ 3 → (m ≡ true) × (l ≡ true)
+told_3 false l e f h = absurd (omega arith)
+told_3 true true e f h = (refl, refl)
+told_3 true false false f h = absurd (omega arith)
+told_3 true false true true h = absurd (omega arith)
+told_3 true false true false h = absurd (omega arith)
 
-told-32 : (m l e f : Bool) → numberBy m l e f ≡ 32 → (m ≡ true) × (l ≡ false) × (e ≡ false)
-told-32 false l e f h = absurd (omega arith)
-told-32 true true e f h = absurd (omega arith)
-told-32 true false false f h = (refl, refl, refl)
-told-32 true false true true h = absurd (omega arith)
-told-32 true false true false h = absurd (omega arith)
+told_32 : (m l e f : Bool) → number_by m l e f ≡ 32 → (m ≡ true) × (l ≡ false) × (e ≡ false)
+told_32 false l e f h = absurd (omega arith)
+told_32 true true e f h = absurd (omega arith)
+told_32 true false false f h = (refl, refl, refl)
+told_32 true false true true h = absurd (omega arith)
+told_32 true false true false h = absurd (omega arith)
 
-told-33 : (m l e f : Bool) → numberBy m l e f ≡ 33 → (m ≡ true) × (l ≡ false) × (e ≡ true) × (f ≡ true)
-told-33 false l e f h = absurd (omega arith)
-told-33 true true e f h = absurd (omega arith)
-told-33 true false false f h = absurd (omega arith)
-told-33 true false true true h = (refl, refl, refl, refl)
-told-33 true false true false h = absurd (omega arith)
+told_33 : (m l e f : Bool) → number_by m l e f ≡ 33 → (m ≡ true) × (l ≡ false) × (e ≡ true) × (f ≡ true)
+told_33 false l e f h = absurd (omega arith)
+told_33 true true e f h = absurd (omega arith)
+told_33 true false false f h = absurd (omega arith)
+told_33 true false true true h = (refl, refl, refl, refl)
+told_33 true false true false h = absurd (omega arith)
 
 -- what is found is no refusal
-found-sure : (find : List ℕ → Found) (bs : List ℕ) (ws : List Row) → (firstIn find bs ws).refusal ≡ 0
-unfolding firstIn
-found-sure find bs [] = refl
-found-sure find bs (w ∷ ws) = by-find (find (frame_of bs w)) (found-sure find bs ws)
+found_sure : (find : List ℕ → Found) (bs : List ℕ) (ws : List Row) → (first_in find bs ws).refusal ≡ 0
+unfolding first_in
+found_sure find bs [] = refl
+found_sure find bs (w ∷ ws) = by_find (find (frame_of bs w)) (found_sure find bs ws)
   where
-    by-find : (f : Found) → (firstIn find bs ws).refusal ≡ 0 → (orLater w.offset f (firstIn find bs ws)).refusal ≡ 0
-    by-find (At i) e = refl
-    by-find Missing e = e
+    by_find : (f : Found) → (first_in find bs ws).refusal ≡ 0 → (or_later w.offset f (first_in find bs ws)).refusal ≡ 0
+    by_find (At i) e = refl
+    by_find Missing e = e
 
-pub close-refuses-exactly : say.CloseRefusesExactly
+pub close_refuses_exactly : say.CloseRefusesExactly
 unfolding closeness
-close-refuses-exactly dialect edition d bs = record {
+close_refuses_exactly dialect edition d bs = record {
   answers = (
-    λ h. let t = told-0 m l e f (sym number ∙ h) in record {
+    λ h. let t = told_0 m l e f (sym number ∙ h) in record {
       mmwave = eqb-true dialect 1 t.0;
-      short = ltb-false maxBytes (length bs) t.1;
-      legal = (edition-exactly edition).0 t.2;
-      near = ltb-false maxDistance d t.3;
+      short = ltb-false max_bytes (length bs) t.1;
+      legal = (edition_exactly edition).0 t.2;
+      near = ltb-false max_distance d t.3;
     },
     λ a. number ∙ rw (
       eq-eqb dialect 1 a.mmwave,
-      le-ltb maxBytes (length bs) a.short,
-      (edition-exactly edition).1 a.legal,
-      le-ltb maxDistance d a.near,
+      le-ltb max_bytes (length bs) a.short,
+      (edition_exactly edition).1 a.legal,
+      le-ltb max_distance d a.near,
     ) refl,
   );
-  by-dialect = (λ h. eqb-false dialect 1 (told-1 m l e f (sym number ∙ h)), λ n. number ∙ rw (ne_eqb dialect 1 n) refl);
+  by_dialect = (λ h. eqb-false dialect 1 (told_1 m l e f (sym number ∙ h)), λ n. number ∙ rw (ne_eqb dialect 1 n) refl);
   by_size = (
-    λ h. let t = told-3 m l e f (sym number ∙ h) in (eqb-true dialect 1 t.0, ltb-true maxBytes (length bs) t.1),
-    λ a. number ∙ rw (eq-eqb dialect 1 a.0, lt-ltb maxBytes (length bs) a.1) refl,
+    λ h. let t = told_3 m l e f (sym number ∙ h) in (eqb-true dialect 1 t.0, ltb-true max_bytes (length bs) t.1),
+    λ a. number ∙ rw (eq-eqb dialect 1 a.0, lt-ltb max_bytes (length bs) a.1) refl,
   );
-  by-edition = (
-    λ h. let t = told-32 m l e f (sym number ∙ h) in
-        (eqb-true dialect 1 t.0, ltb-false maxBytes (length bs) t.1, (no-edition edition).0 t.2),
-    λ a. number ∙ rw (eq-eqb dialect 1 a.0, le-ltb maxBytes (length bs) a.1, (no-edition edition).1 a.2) refl,
+  by_edition = (
+    λ h. let t = told_32 m l e f (sym number ∙ h) in
+        (eqb-true dialect 1 t.0, ltb-false max_bytes (length bs) t.1, (no_edition edition).0 t.2),
+    λ a. number ∙ rw (eq-eqb dialect 1 a.0, le-ltb max_bytes (length bs) a.1, (no_edition edition).1 a.2) refl,
   );
-  by-distance = (
-    λ h. let t = told-33 m l e f (sym number ∙ h) in (
+  by_distance = (
+    λ h. let t = told_33 m l e f (sym number ∙ h) in (
       eqb-true dialect 1 t.0,
-      ltb-false maxBytes (length bs) t.1,
-      (edition-exactly edition).0 t.2,
-      ltb-true maxDistance d t.3,
+      ltb-false max_bytes (length bs) t.1,
+      (edition_exactly edition).0 t.2,
+      ltb-true max_distance d t.3,
     ),
     λ a. number ∙ rw (
       eq-eqb dialect 1 a.0,
-      le-ltb maxBytes (length bs) a.1,
-      (edition-exactly edition).1 a.2,
-      lt-ltb maxDistance d a.3,
+      le-ltb max_bytes (length bs) a.1,
+      (edition_exactly edition).1 a.2,
+      lt-ltb max_distance d a.3,
     ) refl,
   );
-  zeros = λ n. zeros-else m l e f all (λ z. n (number ∙ z)) ∙ ap refused (sym number);
+  zeros = λ n. zeros_else m l e f all (λ z. n (number ∙ z)) ∙ ap refused (sym number);
 }
   where
     all : Closeness
-    all = firstIn (closePoint edition d) bs (packetRows bs)
+    all = first_in (close_point edition d) bs (packet_rows bs)
 
     m : Bool
     m = eqb dialect 1
 
     l : Bool
-    l = ltb maxBytes (length bs)
+    l = ltb max_bytes (length bs)
 
     e : Bool
-    e = isEdition edition
+    e = is_edition edition
 
     f : Bool
-    f = ltb maxDistance d
+    f = ltb max_distance d
 
-    number : (closeness dialect edition d bs).refusal ≡ numberBy m l e f
-    number = number_is m l e f all (found-sure (closePoint edition d) bs (packetRows bs))
+    number : (closeness dialect edition d bs).refusal ≡ number_by m l e f
+    number = number_is m l e f all (found_sure (close_point edition d) bs (packet_rows bs))
 
 -- -- A point and a packet
 
 -- the test of a point says that it is close
-close-exactly : (d : ℕ) (p : PacketPoint) → (isClose d p ≡ true) ↔ Close d p
-close-exactly d p = (
+close_exactly : (d : ℕ) (p : PacketPoint) → (is_close d p ≡ true) ↔ Close d p
+close_exactly d p = (
   λ h.
       let sure = and_parts (eqb p.refusal 0) (x && (y && z)) h in
       let first = and_parts x (y && z) sure.1 in
@@ -200,35 +200,35 @@ close-exactly d p = (
 
 module _ (edition d : ℕ) (bs : List ℕ) where
   abbrev close : ℕ → Bool
-  close i = isClose d (point_of edition bs i)
+  close i = is_close d (point_of edition bs i)
 
-  not-close : (i : ℕ) → close i ≡ false → CloseIn edition d bs i → ⊥
-  not-close i f c = both_ways (close i) ((close-exactly d _).1 c) f
+  not_close : (i : ℕ) → close i ≡ false → CloseIn edition d bs i → ⊥
+  not_close i f c = both_ways (close i) ((close_exactly d _).1 c) f
 
   -- no point is given from the count on
-  none-from-count : (i : ℕ) → (points_of bs).count ≤ i → CloseIn edition d bs i → ⊥
+  none_from_count : (i : ℕ) → (points_of bs).count ≤ i → CloseIn edition d bs i → ⊥
   unfolding points_of point_of
-  none-from-count i l c = test (isPacket 16 bs) (λ y. by-record y (pointRecord bs) refl) (λ n. absurd (told-5 (rw n at c.given)))
+  none_from_count i l c = test (is_packet 16 bs) (λ y. by_record y (point_record bs) refl) (λ n. absurd (told_5 (rw n at c.given)))
     where
-      told-5 : ◌≡◌ {A = ℕ} 5 0 → ⊥
-      told-5 e = omega arith
+      told_5 : ◌≡◌ {A = ℕ} 5 0 → ⊥
+      told_5 e = omega arith
 
-      by-record : isPacket 16 bs ≡ true → (f : Found) → pointRecord bs ≡ f → ⊥
-      by-record y (At p) e =
-          let below : objectsOf bs ≤ i = rw (y, e) at l in
-          let z : ◌≡◌ {A = ℕ} 6 0 = rw (y, e, le-ltb i (objectsOf bs) below) at c.given in
+      by_record : is_packet 16 bs ≡ true → (f : Found) → point_record bs ≡ f → ⊥
+      by_record y (At p) e =
+          let below : objects_of bs ≤ i = rw (y, e) at l in
+          let z : ◌≡◌ {A = ℕ} 6 0 = rw (y, e, le-ltb i (objects_of bs) below) at c.given in
           omega arith
-      by-record y Missing e = let z : ◌≡◌ {A = ℕ} 7 0 = rw (y, e) at c.given in omega arith
+      by_record y Missing e = let z : ◌≡◌ {A = ℕ} 7 0 = rw (y, e) at c.given in omega arith
 
   -- what the search from index i on finds is close, and none before it is
-  from_found : (n i j : ℕ) → firstClose edition d bs n i ≡ At j
+  from_found : (n i j : ℕ) → first_close edition d bs n i ≡ At j
       → (i ≤ j) × CloseIn edition d bs j × ((k : ℕ) → i ≤ k → k < j → CloseIn edition d bs k → ⊥)
-  unfolding firstClose
+  unfolding first_close
   from_found zero i j h = let z : ◌≡◌ {A = ℕ} 0 1 = cc in absurd (omega arith)
   from_found (suc n) i j h = test (close i) (λ y. here y (rw y at h)) (λ f. later f (from_found n (i + 1) j (rw f at h)))
     where
       here : close i ≡ true → At i ≡ At j → (i ≤ j) × CloseIn edition d bs j × ((k : ℕ) → i ≤ k → k < j → CloseIn edition d bs k → ⊥)
-      here y e = let s : i ≡ j = cc in (omega arith, rw s at ((close-exactly d (point_of edition bs i)).0 y), λ k p q c. absurd (omega arith))
+      here y e = let s : i ≡ j = cc in (omega arith, rw s at ((close_exactly d (point_of edition bs i)).0 y), λ k p q c. absurd (omega arith))
 
       later : close i ≡ false → (i + 1 ≤ j) × CloseIn edition d bs j × ((k : ℕ) → i + 1 ≤ k → k < j → CloseIn edition d bs k → ⊥)
           → (i ≤ j) × CloseIn edition d bs j × ((k : ℕ) → i ≤ k → k < j → CloseIn edition d bs k → ⊥)
@@ -236,35 +236,35 @@ module _ (edition d : ℕ) (bs : List ℕ) where
         where
           by_index : (k : ℕ) → k < j → CloseIn edition d bs k → Dec (i < k) → i ≤ k → ⊥
           by_index k q c (yes b) p = g.2 k (omega arith) q c
-          by_index k q c (no b) p = let s : k ≡ i = omega arith in not-close i f (rw s at c)
+          by_index k q c (no b) p = let s : k ≡ i = omega arith in not_close i f (rw s at c)
 
   -- where it finds none, none is
-  from-missing : (n i : ℕ) → firstClose edition d bs n i ≡ Missing → (k : ℕ) → i ≤ k → k < i + n → CloseIn edition d bs k → ⊥
-  unfolding firstClose
-  from-missing zero i h k p q c = omega arith
-  from-missing (suc n) i h k p q c =
+  from_missing : (n i : ℕ) → first_close edition d bs n i ≡ Missing → (k : ℕ) → i ≤ k → k < i + n → CloseIn edition d bs k → ⊥
+  unfolding first_close
+  from_missing zero i h k p q c = omega arith
+  from_missing (suc n) i h k p q c =
       test (close i) (λ y. let z : At i ≡ Missing = rw y at h in let o : ◌≡◌ {A = ℕ} 0 1 = cc in omega arith)
-      (λ f. by_index f (from-missing n (i + 1) (rw f at h) k) (dec_lt i k))
+      (λ f. by_index f (from_missing n (i + 1) (rw f at h) k) (dec_lt i k))
     where
       by_index : close i ≡ false → (i + 1 ≤ k → k < i + 1 + n → CloseIn edition d bs k → ⊥) → Dec (i < k) → ⊥
       by_index f g (yes b) = g (omega arith) (omega arith) c
-      by_index f g (no b) = let s : k ≡ i = omega arith in not-close i f (rw s at c)
+      by_index f g (no b) = let s : k ≡ i = omega arith in not_close i f (rw s at c)
 
   -- the first close point of a packet is its first
-  point-first : (j : ℕ) → closePoint edition d bs ≡ At j → FirstClose edition d bs j
-  point-first j h = let f = from_found (points_of bs).count 0 j h in record { close = f.1; before = λ k l. f.2 k (omega arith) l }
+  point_first : (j : ℕ) → close_point edition d bs ≡ At j → FirstClose edition d bs j
+  point_first j h = let f = from_found (points_of bs).count 0 j h in record { close = f.1; before = λ k l. f.2 k (omega arith) l }
 
   -- where it has none, none is close
-  point-none : closePoint edition d bs ≡ Missing → NoneClose edition d bs
-  point-none h i c = by_index (dec_lt i (points_of bs).count)
+  point_none : close_point edition d bs ≡ Missing → NoneClose edition d bs
+  point_none h i c = by_index (dec_lt i (points_of bs).count)
     where
       by_index : Dec (i < (points_of bs).count) → ⊥
-      by_index (yes l) = from-missing (points_of bs).count 0 h i (omega arith) (omega arith) c
-      by_index (no l) = none-from-count i (omega arith) c
+      by_index (yes l) = from_missing (points_of bs).count 0 h i (omega arith) (omega arith) c
+      by_index (no l) = none_from_count i (omega arith) c
 
   -- there is one first
-  first-once : (i j : ℕ) → FirstClose edition d bs i → FirstClose edition d bs j → i ≡ j
-  first-once i j f g = by_order (dec_lt i j) (dec_lt j i)
+  first_once : (i j : ℕ) → FirstClose edition d bs i → FirstClose edition d bs j → i ≡ j
+  first_once i j f g = by_order (dec_lt i j) (dec_lt j i)
     where
       by_order : Dec (i < j) → Dec (j < i) → i ≡ j
       by_order (yes l) m = absurd (g.before i l f.close)
@@ -274,46 +274,46 @@ module _ (edition d : ℕ) (bs : List ℕ) where
 -- -- The rows
 
 -- a yes is no no
-yes-is-no : {offset index : ℕ} → closeAt offset index ≡ nobody → ⊥
-yes-is-no e = let z : ◌≡◌ {A = ℕ} 1 0 = ap (λ (c : Closeness). c.close) e in omega arith
+yes_is_no : {offset index : ℕ} → close_at offset index ≡ nobody → ⊥
+yes_is_no e = let z : ◌≡◌ {A = ℕ} 1 0 = ap (λ (c : Closeness). c.close) e in omega arith
 
 module _ (edition d : ℕ) (bs : List ℕ) where
   abbrev answer : List Row → Closeness
-  answer ws = firstIn (closePoint edition d) bs ws
+  answer ws = first_in (close_point edition d) bs ws
 
-  no-forth : (ws : List Row) → answer ws ≡ nobody → NobodyIn edition d bs ws
-  unfolding firstIn NobodyIn
-  no-forth [] h = tt
-  no-forth (w ∷ ws) h = by-find (closePoint edition d (frame_of bs w)) refl (no-forth ws) h
+  no_forth : (ws : List Row) → answer ws ≡ nobody → NobodyIn edition d bs ws
+  unfolding first_in NobodyIn
+  no_forth [] h = tt
+  no_forth (w ∷ ws) h = by_find (close_point edition d (frame_of bs w)) refl (no_forth ws) h
     where
-      by-find : (f : Found) → closePoint edition d (frame_of bs w) ≡ f → (answer ws ≡ nobody → NobodyIn edition d bs ws)
-          → orLater w.offset f (answer ws) ≡ nobody → NoneClose edition d (frame_of bs w) × NobodyIn edition d bs ws
-      by-find (At i) e go h = absurd (yes-is-no h)
-      by-find Missing e go h = (point-none edition d (frame_of bs w) e, go h)
+      by_find : (f : Found) → close_point edition d (frame_of bs w) ≡ f → (answer ws ≡ nobody → NobodyIn edition d bs ws)
+          → or_later w.offset f (answer ws) ≡ nobody → NoneClose edition d (frame_of bs w) × NobodyIn edition d bs ws
+      by_find (At i) e go h = absurd (yes_is_no h)
+      by_find Missing e go h = (point_none edition d (frame_of bs w) e, go h)
 
   -- a packet without a close point answers nothing
   passes : (w : Row) (later : Closeness) → NoneClose edition d (frame_of bs w)
-      → orLater w.offset (closePoint edition d (frame_of bs w)) later ≡ later
-  passes w later n = by-find (closePoint edition d (frame_of bs w)) refl
+      → or_later w.offset (close_point edition d (frame_of bs w)) later ≡ later
+  passes w later n = by_find (close_point edition d (frame_of bs w)) refl
     where
-      by-find : (f : Found) → closePoint edition d (frame_of bs w) ≡ f → orLater w.offset f later ≡ later
-      by-find (At i) e = absurd (n i (point-first edition d (frame_of bs w) i e).close)
-      by-find Missing e = refl
+      by_find : (f : Found) → close_point edition d (frame_of bs w) ≡ f → or_later w.offset f later ≡ later
+      by_find (At i) e = absurd (n i (point_first edition d (frame_of bs w) i e).close)
+      by_find Missing e = refl
 
-  no-back : (ws : List Row) → NobodyIn edition d bs ws → answer ws ≡ nobody
-  unfolding firstIn NobodyIn
-  no-back [] n = refl
-  no-back (w ∷ ws) n = passes w (answer ws) n.0 ∙ no-back ws n.1
+  no_back : (ws : List Row) → NobodyIn edition d bs ws → answer ws ≡ nobody
+  unfolding first_in NobodyIn
+  no_back [] n = refl
+  no_back (w ∷ ws) n = passes w (answer ws) n.0 ∙ no_back ws n.1
 
-  yes-forth : (ws : List Row) (offset index : ℕ) → answer ws ≡ closeAt offset index → FirstCloseIn edition d bs ws offset index
-  unfolding firstIn NobodyIn
-  yes-forth [] offset index h = absurd (yes-is-no (sym h))
-  yes-forth (w ∷ ws) offset index h = by-find (closePoint edition d (frame_of bs w)) refl (yes-forth ws offset index) h
+  yes_forth : (ws : List Row) (offset index : ℕ) → answer ws ≡ close_at offset index → FirstCloseIn edition d bs ws offset index
+  unfolding first_in NobodyIn
+  yes_forth [] offset index h = absurd (yes_is_no (sym h))
+  yes_forth (w ∷ ws) offset index h = by_find (close_point edition d (frame_of bs w)) refl (yes_forth ws offset index) h
     where
-      by-find : (f : Found) → closePoint edition d (frame_of bs w) ≡ f
-          → (answer ws ≡ closeAt offset index → FirstCloseIn edition d bs ws offset index)
-          → orLater w.offset f (answer ws) ≡ closeAt offset index → FirstCloseIn edition d bs (w ∷ ws) offset index
-      by-find (At i) e go h =
+      by_find : (f : Found) → close_point edition d (frame_of bs w) ≡ f
+          → (answer ws ≡ close_at offset index → FirstCloseIn edition d bs ws offset index)
+          → or_later w.offset f (answer ws) ≡ close_at offset index → FirstCloseIn edition d bs (w ∷ ws) offset index
+      by_find (At i) e go h =
           let s : i ≡ index = ap (λ (c : Closeness). c.index) h in
           record {
             before = [];
@@ -322,62 +322,62 @@ module _ (edition d : ℕ) (bs : List ℕ) where
             rows = refl;
             none_before = tt;
             place = ap (λ (c : Closeness). c.offset) h;
-            first = rw s at (point-first edition d (frame_of bs w) i e);
+            first = rw s at (point_first edition d (frame_of bs w) i e);
           }
-      by-find Missing e go h = let g = go h in record {
+      by_find Missing e go h = let g = go h in record {
         before = w ∷ g.before;
         packet = g.packet;
         behind = g.behind;
         rows = ap (λ (vs : List Row). w ∷ vs) g.rows;
-        none_before = (point-none edition d (frame_of bs w) e, g.none_before);
+        none_before = (point_none edition d (frame_of bs w) e, g.none_before);
         place = g.place;
         first = g.first;
       }
 
   -- the packet answers
-  answers-here : (w : Row) (later : Closeness) (index : ℕ) → FirstClose edition d (frame_of bs w) index
-      → orLater w.offset (closePoint edition d (frame_of bs w)) later ≡ closeAt w.offset index
-  answers-here w later index f = by-find (closePoint edition d (frame_of bs w)) refl
+  answers_here : (w : Row) (later : Closeness) (index : ℕ) → FirstClose edition d (frame_of bs w) index
+      → or_later w.offset (close_point edition d (frame_of bs w)) later ≡ close_at w.offset index
+  answers_here w later index f = by_find (close_point edition d (frame_of bs w)) refl
     where
-      by-find : (g : Found) → closePoint edition d (frame_of bs w) ≡ g → orLater w.offset g later ≡ closeAt w.offset index
-      by-find (At i) e = ap (closeAt w.offset) (first-once edition d (frame_of bs w) i index (point-first edition d (frame_of bs w) i e) f)
-      by-find Missing e = absurd (point-none edition d (frame_of bs w) e index f.close)
+      by_find : (g : Found) → close_point edition d (frame_of bs w) ≡ g → or_later w.offset g later ≡ close_at w.offset index
+      by_find (At i) e = ap (close_at w.offset) (first_once edition d (frame_of bs w) i index (point_first edition d (frame_of bs w) i e) f)
+      by_find Missing e = absurd (point_none edition d (frame_of bs w) e index f.close)
 
-  yes-behind : (before behind : List Row) (w : Row) (index : ℕ) → NobodyIn edition d bs before → FirstClose edition d (frame_of bs w) index
-      → answer (before ++ w ∷ behind) ≡ closeAt w.offset index
-  unfolding firstIn NobodyIn
-  yes-behind [] behind w index n f = answers-here w (answer behind) index f
-  yes-behind (v ∷ before) behind w index n f =
-      passes v (answer (before ++ w ∷ behind)) n.0 ∙ yes-behind before behind w index n.1 f
+  yes_behind : (before behind : List Row) (w : Row) (index : ℕ) → NobodyIn edition d bs before → FirstClose edition d (frame_of bs w) index
+      → answer (before ++ w ∷ behind) ≡ close_at w.offset index
+  unfolding first_in NobodyIn
+  yes_behind [] behind w index n f = answers_here w (answer behind) index f
+  yes_behind (v ∷ before) behind w index n f =
+      passes v (answer (before ++ w ∷ behind)) n.0 ∙ yes_behind before behind w index n.1 f
 
-  yes-back : (ws : List Row) (offset index : ℕ) → FirstCloseIn edition d bs ws offset index → answer ws ≡ closeAt offset index
-  yes-back ws offset index f =
-      ap answer f.rows ∙ yes-behind f.before f.behind f.packet index f.none_before f.first
-      ∙ ap (λ (o : ℕ). closeAt o index) f.place
+  yes_back : (ws : List Row) (offset index : ℕ) → FirstCloseIn edition d bs ws offset index → answer ws ≡ close_at offset index
+  yes_back ws offset index f =
+      ap answer f.rows ∙ yes_behind f.before f.behind f.packet index f.none_before f.first
+      ∙ ap (λ (o : ℕ). close_at o index) f.place
 
 -- the rows of the closed reading with room for all are those of the leftmost reading
-rows_are : (d : Dialect) (bs : List ℕ) (ws : List Row) → Leftmost (StandsIn d bs) 0 ws → closedRows d bs ≡ ws
-unfolding closedRows
+rows_are : (d : Dialect) (bs : List ℕ) (ws : List Row) → Leftmost (StandsIn d bs) 0 ws → closed_rows d bs ≡ ws
+unfolding closed_rows
 rows_are d bs ws l =
     let room = length ws + length bs in
-    let fit = rows_fit (judgeOf d) (lawful-of d) true bs (length bs) in
-    sym (take_all room _ (omega arith)) ∙ sym (closed-rows-first d bs room) ∙ (closed-is-leftmost d bs room ws l (omega arith)).0
+    let fit = rows_fit (judge_of d) (lawful_of d) true bs (length bs) in
+    sym (take_all room _ (omega arith)) ∙ sym (closed_rows_first d bs room) ∙ (closed_is_leftmost d bs room ws l (omega arith)).0
 
-pub close-packets-first : say.ClosePacketsFirst
+pub close_packets_first : say.ClosePacketsFirst
 unfolding closeness
-close-packets-first dialect edition d bs asks ws l = record {
+close_packets_first dialect edition d bs asks ws l = record {
   yes = λ offset index. (
-    λ h. yes-forth edition d bs ws offset index (sym is ∙ h),
-    λ f. is ∙ yes-back edition d bs ws offset index f,
+    λ h. yes_forth edition d bs ws offset index (sym is ∙ h),
+    λ f. is ∙ yes_back edition d bs ws offset index f,
   );
-  no = (λ h. no-forth edition d bs ws (sym is ∙ h), λ n. is ∙ no-back edition d bs ws n);
+  no = (λ h. no_forth edition d bs ws (sym is ∙ h), λ n. is ∙ no_back edition d bs ws n);
 }
   where
-    is : closeness dialect edition d bs ≡ firstIn (closePoint edition d) bs ws
+    is : closeness dialect edition d bs ≡ first_in (close_point edition d) bs ws
     is =
         rw (
           eq-eqb dialect 1 asks.mmwave,
-          le-ltb maxBytes (length bs) asks.short,
-          (edition-exactly edition).1 asks.legal,
-          le-ltb maxDistance d asks.near,
-        ) (ap (firstIn (closePoint edition d) bs) (rows_are (Packets MmWave) bs ws l))
+          le-ltb max_bytes (length bs) asks.short,
+          (edition_exactly edition).1 asks.legal,
+          le-ltb max_distance d asks.near,
+        ) (ap (first_in (close_point edition d) bs) (rows_are (Packets MmWave) bs ws l))

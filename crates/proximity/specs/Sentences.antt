@@ -8,11 +8,11 @@ use Rattle.packet.specs.Fields.{point_of}
 use Rattle.reading.specs.declared.Row.{Row}
 use Rattle.reading.specs.Leftmost.{Leftmost}
 use Rattle.capture.specs.declared.Dialect.TheVariants.{Packets}
-use Rattle.capture.specs.Entries.{maxBytes}
+use Rattle.capture.specs.Entries.{max_bytes}
 use Rattle.capture.specs.Demands.{StandsIn}
 use Rattle.units.specs.Units.{Edition}
-use Rattle.coordinate_bounds.specs.Bounds.{maxDistance}
-use Rattle.proximity.specs.Proximity.{refused, closeAt, nobody, frame_of, closeness}
+use Rattle.coordinate_bounds.specs.Bounds.{max_distance}
+use Rattle.proximity.specs.Proximity.{refused, close_at, nobody, frame_of, closeness}
 
 -- -- Words
 
@@ -54,9 +54,9 @@ pub record FirstCloseIn (edition d : ℕ) (bs : List ℕ) (ws : List Row) (offse
 -- a call that is not refused
 pub record Asks (dialect edition d : ℕ) (bs : List ℕ) : Type 0 where
   pub mmwave : dialect ≡ 1
-  pub short : length bs ≤ maxBytes
+  pub short : length bs ≤ max_bytes
   pub legal : Edition edition
-  pub near : d ≤ maxDistance
+  pub near : d ≤ max_distance
 
 -- -- Sentences
 
@@ -64,11 +64,11 @@ pub record Asks (dialect edition d : ℕ) (bs : List ℕ) : Type 0 where
 -- 1,000,000; the first of these in this order gives the number, and every other number is 0
 pub record CloseRefusals (dialect edition d : ℕ) (bs : List ℕ) : Type 0 where
   pub answers : ((closeness dialect edition d bs).refusal ≡ 0) ↔ Asks dialect edition d bs
-  pub by-dialect : ((closeness dialect edition d bs).refusal ≡ 1) ↔ (dialect ≡ 1 → ⊥)
-  pub by_size : ((closeness dialect edition d bs).refusal ≡ 3) ↔ ((dialect ≡ 1) × (maxBytes < length bs))
-  pub by-edition : ((closeness dialect edition d bs).refusal ≡ 32) ↔ ((dialect ≡ 1) × (length bs ≤ maxBytes) × (Edition edition → ⊥))
-  pub by-distance : ((closeness dialect edition d bs).refusal ≡ 33)
-      ↔ ((dialect ≡ 1) × (length bs ≤ maxBytes) × Edition edition × (maxDistance < d))
+  pub by_dialect : ((closeness dialect edition d bs).refusal ≡ 1) ↔ (dialect ≡ 1 → ⊥)
+  pub by_size : ((closeness dialect edition d bs).refusal ≡ 3) ↔ ((dialect ≡ 1) × (max_bytes < length bs))
+  pub by_edition : ((closeness dialect edition d bs).refusal ≡ 32) ↔ ((dialect ≡ 1) × (length bs ≤ max_bytes) × (Edition edition → ⊥))
+  pub by_distance : ((closeness dialect edition d bs).refusal ≡ 33)
+      ↔ ((dialect ≡ 1) × (length bs ≤ max_bytes) × Edition edition × (max_distance < d))
   pub zeros : ((closeness dialect edition d bs).refusal ≡ 0 → ⊥)
       → closeness dialect edition d bs ≡ refused (closeness dialect edition d bs).refusal
 
@@ -79,7 +79,7 @@ CloseRefusesExactly = (dialect edition d : ℕ) (bs : List ℕ) → CloseRefusal
 -- "yes", with an offset and an index, exactly if these are the first packet of the leftmost reading that has a close point and its first
 -- close one; "no", with zeros, exactly if no packet has any
 pub record Answers (dialect edition d : ℕ) (bs : List ℕ) (ws : List Row) : Type 0 where
-  pub yes : (offset index : ℕ) → (closeness dialect edition d bs ≡ closeAt offset index) ↔ FirstCloseIn edition d bs ws offset index
+  pub yes : (offset index : ℕ) → (closeness dialect edition d bs ≡ close_at offset index) ↔ FirstCloseIn edition d bs ws offset index
   pub no : (closeness dialect edition d bs ≡ nobody) ↔ NobodyIn edition d bs ws
 
 -- that of every call that is not refused

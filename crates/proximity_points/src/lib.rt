@@ -1,20 +1,20 @@
 // The first of a record's points that is close, by the bits of the coordinates (paper 02, (vi)).
 ghost use Rattle.std.specs.Prelude.{◌≡◌, ◌/◌, length};
-ghost use Rattle.proximity.specs.Internal.{bitsWithin, pointWithin, firstWithin};
+ghost use Rattle.proximity.specs.Internal.{bits_within, point_within, first_within};
 
 use coordinate_bounds::sign_last;
 use packet::{Found, POINT_SIZE};
 
 // Whether a coordinate's bits, with the sign last, are at most the limit.
 fn is_within(bits: u32, limit: u32) -> bool
-    ensures { result ≡ bitsWithin limit bits }
+    ensures { result ≡ bits_within limit bits }
 {
     sign_last(bits) <= limit
 }
 
 // Whether those of a point's X, Y and Z are.
 fn is_close(point: &[u8], limit: u32) -> bool
-    ensures { result ≡ pointWithin limit point.now 0 }
+    ensures { result ≡ point_within limit point.now 0 }
 {
     if is_within(numbers::word_at(point, 0), limit) {
         if is_within(numbers::word_at(point, 4), limit) {
@@ -27,7 +27,7 @@ fn is_close(point: &[u8], limit: u32) -> bool
 // The index of the first of these points, 16 bytes each, whose X, Y and Z have bits, with the sign last, of at most the limit
 // (`coordinate_bounds::limit_of`). Each part is 16 bytes long, so that no number in it tests the length.
 pub fn first_close(points: &[u8], limit: u32) -> Found
-    ensures { result ≡ firstWithin limit points.now (length points.now / 16) 0 }
+    ensures { result ≡ first_within limit points.now (length points.now / 16) 0 }
 {
     let count = points.len() / POINT_SIZE;
     let mut i: usize = 0;

@@ -10,15 +10,15 @@ use native.Mathlib.Omega.{arith}
 use borrow.Author.Tests.{eqb-true, eqb-false}
 use lib.Dec.{eqb}
 use lib.ListN.{length, get_or, take}
-use Rattle.digits.specs.Hex.{hexFrom, hexAt}
+use Rattle.digits.specs.Hex.{hex_from, hex_at}
 use Rattle.digits.proofs.Choices.{test}
 use Rattle.form.specs.declared.Judgement.TheVariants.{Bad, Waiting}
 use Rattle.form.specs.Form.{judge}
 use Rattle.sirad.specs.Classes.{Class, accepts, reason}
 use Rattle.sirad.specs.Sirad.{lay, sirad}
-use Rattle.sirad.specs.Table.{identifier, total, class_at, FirstFails, Refused, no_start, no-identifier, no_member}
-use Rattle.sirad.proofs.FrameLaws.{judge-none, judge-no-start, judge-start, judge-unknown}
-use Rattle.sirad.proofs.RowLaws.{along, not-identifier, identify, unknown, named-there}
+use Rattle.sirad.specs.Table.{identifier, total, class_at, FirstFails, Refused, no_start, no_identifier, no_member}
+use Rattle.sirad.proofs.FrameLaws.{judge_none, judge_no_start, judge_start, judge_unknown}
+use Rattle.sirad.proofs.RowLaws.{along, not_identifier, identify, unknown, named_there}
 use Rattle.sirad.proofs.TableLaws.{column, Shape, shape}
 
 -- -- The first byte that fails along a column of the table
@@ -31,14 +31,14 @@ record Fails (f : ℕ → Class) (i n : ℕ) (bs : List ℕ) (r : ℕ) : Type 0 
   fails : accepts (f (i + at)) (get_or bs at 0) ≡ false
   why : r ≡ reason (f (i + at))
 
-same-bad : (r q : ℕ) → Bad r ≡ Bad q → q ≡ r
-same-bad r q h = cc
+same_bad : (r q : ℕ) → Bad r ≡ Bad q → q ≡ r
+same_bad r q h = cc
 
-column-fails : (f : ℕ → Class) (i n v at : ℕ) (bs : List ℕ) (r : ℕ) → judge (lay (column f i n) v) at bs ≡ Bad r → Fails f i n bs r
+column_fails : (f : ℕ → Class) (i n v at : ℕ) (bs : List ℕ) (r : ℕ) → judge (lay (column f i n) v) at bs ≡ Bad r → Fails f i n bs r
 unfolding column lay judge
-column-fails f i zero v at bs r h = let z : ◌≡◌ {A = ℕ} 0 1 = cc in absurd (omega arith)
-column-fails f i (suc n) v at [] r h = let z : ◌≡◌ {A = ℕ} 0 1 = cc in absurd (omega arith)
-column-fails f i (suc n) v at (b ∷ bs) r h = go (accepts (f i) b) refl h (column-fails f (suc i) n v (at + 1) bs r)
+column_fails f i zero v at bs r h = let z : ◌≡◌ {A = ℕ} 0 1 = cc in absurd (omega arith)
+column_fails f i (suc n) v at [] r h = let z : ◌≡◌ {A = ℕ} 0 1 = cc in absurd (omega arith)
+column_fails f i (suc n) v at (b ∷ bs) r h = go (accepts (f i) b) refl h (column_fails f (suc i) n v (at + 1) bs r)
   where
     here : f (i + 0) ≡ f i
     here = ap f (add-zero i)
@@ -70,25 +70,25 @@ column-fails f i (suc n) v at (b ∷ bs) r h = go (accepts (f i) b) refl h (colu
       inside = omega arith;
       passed = no_one;
       fails = ap (λ (c : Class). accepts c b) here ∙ t;
-      why = same-bad (reason (f i)) r j ∙ sym (ap reason here);
+      why = same_bad (reason (f i)) r j ∙ sym (ap reason here);
     }
 
-fails-column : (f : ℕ → Class) (i n v at a : ℕ) (bs : List ℕ) → a < length bs → a < n
+fails_column : (f : ℕ → Class) (i n v at a : ℕ) (bs : List ℕ) → a < length bs → a < n
     → ((j : ℕ) → j < a → accepts (f (i + j)) (get_or bs j 0) ≡ true) → accepts (f (i + a)) (get_or bs a 0) ≡ false
     → judge (lay (column f i n) v) at bs ≡ Bad (reason (f (i + a)))
 unfolding column lay judge
-fails-column f i zero v at a bs l m p t = absurd (omega arith)
-fails-column f i (suc n) v at a [] l m p t = absurd (omega arith)
-fails-column f i (suc n) v at zero (b ∷ bs) l m p t =
+fails_column f i zero v at a bs l m p t = absurd (omega arith)
+fails_column f i (suc n) v at a [] l m p t = absurd (omega arith)
+fails_column f i (suc n) v at zero (b ∷ bs) l m p t =
     let e : i + 0 ≡ i = add-zero i in
     let u : accepts (f i) b ≡ false = ap (λ (x : ℕ). accepts (f x) b) (sym e) ∙ t in
     ap (λ (u : Bool). cond u (judge (lay (column f (suc i) n) v) (at + 1) bs) (Bad (reason (f i)))) u
     ∙ ap (λ (x : ℕ). Bad (reason (f x))) (sym e)
-fails-column f i (suc n) v at (suc a) (b ∷ bs) l m p t =
+fails_column f i (suc n) v at (suc a) (b ∷ bs) l m p t =
     let e : i + 0 ≡ i = add-zero i in
     let d : suc i + a ≡ i + suc a = omega arith in
     let u : accepts (f i) b ≡ true = ap (λ (x : ℕ). accepts (f x) b) (sym e) ∙ p 0 (omega arith) in
-    let rest = fails-column f (suc i) n v (at + 1) a bs (omega arith) (omega arith)
+    let rest = fails_column f (suc i) n v (at + 1) a bs (omega arith) (omega arith)
     (λ j k. let c : suc i + j ≡ i + suc j = omega arith in ap (λ (x : ℕ). accepts (f x) (get_or bs j 0)) c ∙ p (suc j) (omega arith))
     (ap (λ (x : ℕ). accepts (f x) (get_or bs a 0)) d ∙ t) in
     ap (λ (u : Bool). cond u (judge (lay (column f (suc i) n) v) (at + 1) bs) (Bad (reason (f i)))) u ∙ rest
@@ -97,17 +97,17 @@ fails-column f i (suc n) v at (suc a) (b ∷ bs) l m p t =
 -- -- Bad exactly if the table refuses
 
 module _ (kind b c : ℕ) (bs : List ℕ) (l : 1 ≤ kind) (m : kind ≤ 6) (s : b ≡ 33) (e : c ≡ identifier kind) where
-  columned : (h : Shape kind (hexFrom 0 (take 4 bs)) (b ∷ c ∷ bs))
+  columned : (h : Shape kind (hex_from 0 (take 4 bs)) (b ∷ c ∷ bs))
       → judge sirad 0 (b ∷ c ∷ bs) ≡ judge (lay (column (class_at kind (suc (suc h.bytes)) (b ∷ c ∷ bs)) 2 h.bytes) kind) 2 bs
-  columned h = along kind b c bs l m s e ∙ ap (λ (cs : List Class). judge (lay cs kind) 2 bs) h.column-is
+  columned h = along kind b c bs l m s e ∙ ap (λ (cs : List Class). judge (lay cs kind) 2 bs) h.column_is
 
   member : (r : ℕ) → judge sirad 0 (b ∷ c ∷ bs) ≡ Bad r → Refused (b ∷ c ∷ bs) r
-  member r j = go (shape kind (hexFrom 0 (take 4 bs)) (b ∷ c ∷ bs) l m)
+  member r j = go (shape kind (hex_from 0 (take 4 bs)) (b ∷ c ∷ bs) l m)
     where
       two : (f : ℕ → Class) (i : ℕ) → f (2 + i) ≡ f (suc (suc i))
       two f i = let d : 2 + i ≡ suc (suc i) = omega arith in ap f d
 
-      from : (size : ℕ) → size ≡ total kind (hexAt 4 2 (b ∷ c ∷ bs)) → (n : ℕ) → size ≡ suc (suc n)
+      from : (size : ℕ) → size ≡ total kind (hex_at 4 2 (b ∷ c ∷ bs)) → (n : ℕ) → size ≡ suc (suc n)
           → Fails (class_at kind size (b ∷ c ∷ bs)) 2 n bs r → Refused (b ∷ c ∷ bs) r
       from size w n q g =
           subst (Refused (b ∷ c ∷ bs))
@@ -130,22 +130,22 @@ module _ (kind b c : ℕ) (bs : List ℕ) (l : 1 ≤ kind) (m : kind ≤ 6) (s :
             fails = ap (λ (x : Class). accepts x (get_or bs g.at 0)) (sym (two (class_at kind size (b ∷ c ∷ bs)) g.at)) ∙ g.fails;
           }
 
-      go : Shape kind (hexFrom 0 (take 4 bs)) (b ∷ c ∷ bs) → Refused (b ∷ c ∷ bs) r
-      go h = from (suc (suc h.bytes)) (sym h.whole-size) h.bytes refl
-          (column-fails (class_at kind (suc (suc h.bytes)) (b ∷ c ∷ bs)) 2 h.bytes kind 2 bs r (sym (columned h) ∙ j))
+      go : Shape kind (hex_from 0 (take 4 bs)) (b ∷ c ∷ bs) → Refused (b ∷ c ∷ bs) r
+      go h = from (suc (suc h.bytes)) (sym h.whole_size) h.bytes refl
+          (column_fails (class_at kind (suc (suc h.bytes)) (b ∷ c ∷ bs)) 2 h.bytes kind 2 bs r (sym (columned h) ∙ j))
 
-  refuses : (at : ℕ) → FirstFails kind (total kind (hexAt 4 2 (b ∷ c ∷ bs))) at (b ∷ c ∷ bs)
-      → judge sirad 0 (b ∷ c ∷ bs) ≡ Bad (reason (class_at kind (total kind (hexAt 4 2 (b ∷ c ∷ bs))) (b ∷ c ∷ bs) at))
-  refuses at f = go (shape kind (hexFrom 0 (take 4 bs)) (b ∷ c ∷ bs) l m)
+  refuses : (at : ℕ) → FirstFails kind (total kind (hex_at 4 2 (b ∷ c ∷ bs))) at (b ∷ c ∷ bs)
+      → judge sirad 0 (b ∷ c ∷ bs) ≡ Bad (reason (class_at kind (total kind (hex_at 4 2 (b ∷ c ∷ bs))) (b ∷ c ∷ bs) at))
+  refuses at f = go (shape kind (hex_from 0 (take 4 bs)) (b ∷ c ∷ bs) l m)
     where
-      by : (h : Shape kind (hexFrom 0 (take 4 bs)) (b ∷ c ∷ bs)) (a : ℕ) → FirstFails kind (suc (suc h.bytes)) a (b ∷ c ∷ bs)
+      by : (h : Shape kind (hex_from 0 (take 4 bs)) (b ∷ c ∷ bs)) (a : ℕ) → FirstFails kind (suc (suc h.bytes)) a (b ∷ c ∷ bs)
           → judge sirad 0 (b ∷ c ∷ bs) ≡ Bad (reason (class_at kind (suc (suc h.bytes)) (b ∷ c ∷ bs) a))
       by h zero g = absurd (omega (arith, g.behind))
       by h (suc zero) g = absurd (omega (arith, g.behind))
       by h (suc (suc a)) g =
           let d : 2 + a ≡ suc (suc a) = omega arith in
           columned h
-          ∙ fails-column (class_at kind (suc (suc h.bytes)) (b ∷ c ∷ bs)) 2 h.bytes kind 2 a bs
+          ∙ fails_column (class_at kind (suc (suc h.bytes)) (b ∷ c ∷ bs)) 2 h.bytes kind 2 a bs
           (omega (arith, g.there)) (omega (arith, g.inside))
           (λ j k. let d : 2 + j ≡ suc (suc j) = omega arith in
           ap (λ (x : ℕ). accepts (class_at kind (suc (suc h.bytes)) (b ∷ c ∷ bs) x) (get_or bs j 0)) d
@@ -153,33 +153,33 @@ module _ (kind b c : ℕ) (bs : List ℕ) (l : 1 ≤ kind) (m : kind ≤ 6) (s :
           (ap (λ (x : ℕ). accepts (class_at kind (suc (suc h.bytes)) (b ∷ c ∷ bs) x) (get_or bs a 0)) d ∙ g.fails)
           ∙ ap (λ (x : ℕ). Bad (reason (class_at kind (suc (suc h.bytes)) (b ∷ c ∷ bs) x))) d
 
-      go : Shape kind (hexFrom 0 (take 4 bs)) (b ∷ c ∷ bs)
-          → judge sirad 0 (b ∷ c ∷ bs) ≡ Bad (reason (class_at kind (total kind (hexAt 4 2 (b ∷ c ∷ bs))) (b ∷ c ∷ bs) at))
-      go h = by h at (subst (λ (t : ℕ). FirstFails kind t at (b ∷ c ∷ bs)) h.whole-size f)
-          ∙ ap (λ (t : ℕ). Bad (reason (class_at kind t (b ∷ c ∷ bs) at))) (sym h.whole-size)
+      go : Shape kind (hex_from 0 (take 4 bs)) (b ∷ c ∷ bs)
+          → judge sirad 0 (b ∷ c ∷ bs) ≡ Bad (reason (class_at kind (total kind (hex_at 4 2 (b ∷ c ∷ bs))) (b ∷ c ∷ bs) at))
+      go h = by h at (subst (λ (t : ℕ). FirstFails kind t at (b ∷ c ∷ bs)) h.whole_size f)
+          ∙ ap (λ (t : ℕ). Bad (reason (class_at kind t (b ∷ c ∷ bs) at))) (sym h.whole_size)
 
-refused-bad : (bs : List ℕ) (r : ℕ) → Refused bs r → judge sirad 0 bs ≡ Bad r
-refused-bad bs r (no_start h e) = sym (judge-no-start bs h e)
-refused-bad bs r (no-identifier h s n) = sym (judge-unknown bs h s (unknown (get_or bs 1 0) n))
-refused-bad [] r (no_member kind at l m s e f) = let z : ◌≡◌ {A = ℕ} 0 33 = s in absurd (omega arith)
-refused-bad (b ∷ []) r (no_member kind at l m s e f) = absurd (named-there kind l m e)
-refused-bad (b ∷ c ∷ bs) r (no_member kind at l m s e f) = refuses kind b c bs l m s e at f
+refused_bad : (bs : List ℕ) (r : ℕ) → Refused bs r → judge sirad 0 bs ≡ Bad r
+refused_bad bs r (no_start h e) = sym (judge_no_start bs h e)
+refused_bad bs r (no_identifier h s n) = sym (judge_unknown bs h s (unknown (get_or bs 1 0) n))
+refused_bad [] r (no_member kind at l m s e f) = let z : ◌≡◌ {A = ℕ} 0 33 = s in absurd (omega arith)
+refused_bad (b ∷ []) r (no_member kind at l m s e f) = absurd (named_there kind l m e)
+refused_bad (b ∷ c ∷ bs) r (no_member kind at l m s e f) = refuses kind b c bs l m s e at f
 
-bad-refused : (bs : List ℕ) (r : ℕ) → judge sirad 0 bs ≡ Bad r → Refused bs r
-bad-refused [] r j = let w : Waiting ≡ judge sirad 0 [] = judge-none [] (omega arith) in let z : ◌≡◌ {A = ℕ} 0 1 = cc in
+bad_refused : (bs : List ℕ) (r : ℕ) → judge sirad 0 bs ≡ Bad r → Refused bs r
+bad_refused [] r j = let w : Waiting ≡ judge sirad 0 [] = judge_none [] (omega arith) in let z : ◌≡◌ {A = ℕ} 0 1 = cc in
     absurd (omega arith)
-bad-refused (b ∷ bs) r j = test (eqb b 33) (λ h. started bs (eqb-true b 33 h) j) (λ h. other (eqb-false b 33 h))
+bad_refused (b ∷ bs) r j = test (eqb b 33) (λ h. started bs (eqb-true b 33 h) j) (λ h. other (eqb-false b 33 h))
   where
     other : (b ≡ 33 → ⊥) → Refused (b ∷ bs) r
-    other n = subst (Refused (b ∷ bs)) (sym (same-bad 10 r (judge-no-start (b ∷ bs) (omega arith) n ∙ j))) (no_start (omega arith) n)
+    other n = subst (Refused (b ∷ bs)) (sym (same_bad 10 r (judge_no_start (b ∷ bs) (omega arith) n ∙ j))) (no_start (omega arith) n)
 
     started : (bs : List ℕ) → b ≡ 33 → judge sirad 0 (b ∷ bs) ≡ Bad r → Refused (b ∷ bs) r
-    started [] s j = let w = judge-start (b ∷ []) (omega arith) s (omega arith) in let z : ◌≡◌ {A = ℕ} 0 1 = cc in absurd (omega arith)
+    started [] s j = let w = judge_start (b ∷ []) (omega arith) s (omega arith) in let z : ◌≡◌ {A = ℕ} 0 1 = cc in absurd (omega arith)
     started (c ∷ bs) s j =
         identify c (λ kind l m e. member kind b c bs l m s e r j)
-        (λ u. subst (Refused (b ∷ c ∷ bs)) (sym (same-bad 11 r (judge-unknown (b ∷ c ∷ bs) (omega arith) s u ∙ j)))
-        (no-identifier (omega arith) s (not-identifier c u)))
+        (λ u. subst (Refused (b ∷ c ∷ bs)) (sym (same_bad 11 r (judge_unknown (b ∷ c ∷ bs) (omega arith) s u ∙ j)))
+        (no_identifier (omega arith) s (not_identifier c u)))
 
 -- judged bad with a reason exactly if the table refuses the bytes with it: the first byte that fails gives the reason
-pub bad-by-table : (bs : List ℕ) (r : ℕ) → (judge sirad 0 bs ≡ Bad r) ↔ Refused bs r
-bad-by-table bs r = (bad-refused bs r, refused-bad bs r)
+pub bad_by_table : (bs : List ℕ) (r : ℕ) → (judge sirad 0 bs ≡ Bad r) ↔ Refused bs r
+bad_by_table bs r = (bad_refused bs r, refused_bad bs r)

@@ -1,7 +1,7 @@
 -- The classes of the bytes in a frame's body, and the reason that each is refused with
 -- (paper 01, "SiRad" and "Judging a place"; paper 02, (ii)).
 use Rattle.std.specs.Prelude.{Bool, true, ◌≡◌, List, [], ◌∷◌, ℕ, eqb}
-use Rattle.digits.specs.Bytes.{isHex, isCharacter}
+use Rattle.digits.specs.Bytes.{is_hex, is_character}
 
 -- a hex digit, a character, the value 0, 13, 10
 pub data Class : Type 0 where
@@ -13,8 +13,8 @@ pub data Class : Type 0 where
 
 -- the bytes of the class (paper 01, "SiRad": upper-case hex digits, characters, then 13 and 10; paper 02, (ii): the value 0)
 abbrev pub accepts : Class → ℕ → Bool
-accepts Hex b = isHex b
-accepts Char b = isCharacter b
+accepts Hex b = is_hex b
+accepts Char b = is_character b
 accepts Zero b = eqb b 0
 accepts Cr b = eqb b 13
 accepts Lf b = eqb b 10

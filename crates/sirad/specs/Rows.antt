@@ -16,25 +16,25 @@ pub data Piece : Type 0 where
 -- -- The classes of the bytes, which the bytes themselves choose
 
 -- a target behind its number: distance, magnitude, phase, 4 reserved
-abbrev pub behindNumber : List Class
-behindNumber = Hex ∷ Hex ∷ Hex ∷ Hex ∷ Char ∷ Hex ∷ Hex ∷ Hex ∷ Hex ∷ Char ∷ Char ∷ Char ∷ Char ∷ []
+abbrev pub behind_number : List Class
+behind_number = Hex ∷ Hex ∷ Hex ∷ Hex ∷ Char ∷ Hex ∷ Hex ∷ Hex ∷ Hex ∷ Char ∷ Char ∷ Char ∷ Char ∷ []
 
 -- a target, 14 bytes: number, then the others
-abbrev pub targetClasses : List Class
-targetClasses = Hex ∷ behindNumber
+abbrev pub target_classes : List Class
+target_classes = Hex ∷ behind_number
 
 -- a T block by its first byte: the value 0 commits the other thirteen to it, anything else is a target (paper 02, (ii))
-abbrev pub blockClasses : ℕ → List Class
-blockClasses b = cond (eqb b 0) (replicate 14 Zero) targetClasses
+abbrev pub block_classes : ℕ → List Class
+block_classes b = cond (eqb b 0) (replicate 14 Zero) target_classes
 
 -- a piece's classes, in the bytes from it on; a reserved byte must be a character (paper 01, "SiRad", our rule)
-abbrev pub pieceClasses : Piece → List ℕ → List Class
-pieceClasses (hex n) bs = replicate n Hex
-pieceClasses char bs = Char ∷ []
-pieceClasses spare bs = Char ∷ []
-pieceClasses slot bs = blockClasses (get_or bs 0 0)
-pieceClasses cr bs = Cr ∷ []
-pieceClasses lf bs = Lf ∷ []
+abbrev pub piece_classes : Piece → List ℕ → List Class
+piece_classes (hex n) bs = replicate n Hex
+piece_classes char bs = Char ∷ []
+piece_classes spare bs = Char ∷ []
+piece_classes slot bs = block_classes (get_or bs 0 0)
+piece_classes cr bs = Cr ∷ []
+piece_classes lf bs = Lf ∷ []
 
 -- how many of these bytes are the piece's
 abbrev pub width : Piece → List ℕ → ℕ
@@ -48,7 +48,7 @@ width lf bs = 1
 -- a row's classes, in the bytes from it on
 unfoldable pub classes : List Piece → List ℕ → List Class
 classes [] bs = []
-classes (p ∷ ps) bs = pieceClasses p bs ++ classes ps (drop (width p bs) bs)
+classes (p ∷ ps) bs = piece_classes p bs ++ classes ps (drop (width p bs) bs)
 
 -- -- The rows
 
@@ -67,25 +67,25 @@ blocks zero = ending
 blocks (suc n) = slot ∷ blocks n
 
 -- what follows the size n in a frame R, P or C: 8 reserved, n characters
-abbrev pub dataPieces : ℕ → List Piece
-dataPieces n = spare ∷ spare ∷ spare ∷ spare ∷ spare ∷ spare ∷ spare ∷ spare ∷ characters n
+abbrev pub data_pieces : ℕ → List Piece
+data_pieces n = spare ∷ spare ∷ spare ∷ spare ∷ spare ∷ spare ∷ spare ∷ spare ∷ characters n
 
 -- R, P, C (kinds 1 to 3) with n characters: the size, then what follows it
-abbrev pub rPieces : ℕ → List Piece
-rPieces n = hex 4 ∷ dataPieces n
+abbrev pub r_pieces : ℕ → List Piece
+r_pieces n = hex 4 ∷ data_pieces n
 
 -- T (kind 4): format, gain, 16 blocks
-abbrev pub tPieces : List Piece
-tPieces = hex 1 ∷ char ∷ blocks 16
+abbrev pub t_pieces : List Piece
+t_pieces = hex 1 ∷ char ∷ blocks 16
 
 -- U (kind 5): format, gain, accuracy, max range, ramp time, bandwidth, time difference
-abbrev pub uPieces : List Piece
-uPieces = hex 1 ∷ char ∷ hex 4 ∷ hex 4 ∷ hex 4 ∷ hex 4 ∷ hex 4 ∷ ending
+abbrev pub u_pieces : List Piece
+u_pieces = hex 1 ∷ char ∷ hex 4 ∷ hex 4 ∷ hex 4 ∷ hex 4 ∷ hex 4 ∷ ending
 
 -- E (kind 6): flags
-abbrev pub ePieces : List Piece
-ePieces = hex 4 ∷ ending
+abbrev pub e_pieces : List Piece
+e_pieces = hex 4 ∷ ending
 
 -- the row of a kind from 1 to 6, with n the size field
 abbrev pub row_of : ℕ → ℕ → List Piece
-row_of kind n = cond (leb kind 3) (rPieces n) (cond (eqb kind 4) tPieces (cond (eqb kind 5) uPieces ePieces))
+row_of kind n = cond (leb kind 3) (r_pieces n) (cond (eqb kind 4) t_pieces (cond (eqb kind 5) u_pieces e_pieces))

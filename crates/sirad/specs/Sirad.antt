@@ -1,14 +1,14 @@
 -- The SiRad wire as a form: `judge sirad 0` is its judgement (paper 01, "SiRad"; paper 02, (ii)).
 use Rattle.std.specs.Prelude.{Bool, true, false, cond, ◌||◌, List, [], ◌∷◌, ℕ, zero, suc, ◌+◌, ◌*◌, eqb}
-use Rattle.digits.specs.Bytes.{isHex}
+use Rattle.digits.specs.Bytes.{is_hex}
 use Rattle.digits.specs.Hex.{digit}
 use Rattle.form.specs.Form.{Form, whole, byte, ◌>>=◌, ◌>>◌}
 use Rattle.form.specs.Pieces.{one}
 use Rattle.sirad.specs.Classes.{Class, Hex, Char, Zero, Cr, Lf, accepts, reason}
 use Rattle.sirad.specs.declared.Kind.{Kind}
 use Rattle.sirad.specs.declared.Kind.TheVariants.{Sized, Targets, Status, Flags, Unknown}
-use Rattle.sirad.specs.Rows.{Piece, hex, char, spare, slot, cr, lf, behindNumber, targetClasses}
-use Rattle.sirad.specs.Rows.{dataPieces, tPieces, uPieces, ePieces}
+use Rattle.sirad.specs.Rows.{Piece, hex, char, spare, slot, cr, lf, behind_number, target_classes}
+use Rattle.sirad.specs.Rows.{data_pieces, t_pieces, u_pieces, e_pieces}
 
 -- -- Parts of a body
 
@@ -24,17 +24,17 @@ run (suc n) c = byte (reason c) (accepts c) (λ _. run n c)
 
 -- a T block that is a target
 unfoldable pub target : Form
-target = lay targetClasses 0
+target = lay target_classes 0
 
 -- behind the first byte of a block: the value 0 commits the other thirteen to it, a digit is the number of a target (paper 02, (ii))
-abbrev pub behindFirst : ℕ → Form
-behindFirst b = cond (eqb b 0) (run 13 Zero) (lay behindNumber 0)
+abbrev pub behind_first : ℕ → Form
+behind_first b = cond (eqb b 0) (run 13 Zero) (lay behind_number 0)
 
 -- one block of a T frame
 unfoldable pub block : Form
 block = do
-  b ← one 12 (λ b. eqb b 0 || isHex b)
-  behindFirst b
+  b ← one 12 (λ b. eqb b 0 || is_hex b)
+  behind_first b
 
 -- a piece's bytes
 abbrev pub piece : Piece → Form
@@ -59,7 +59,7 @@ head = lay (Hex ∷ Char ∷ []) 0
 -- n hex digits; the value is their number, with v in front of them
 unfoldable pub number : ℕ → ℕ → Form
 number zero v = whole v
-number (suc n) v = byte 12 isHex (λ b. number n (v * 16 + digit b))
+number (suc n) v = byte 12 is_hex (λ b. number n (v * 16 + digit b))
 
 -- -- The frames
 
@@ -67,7 +67,7 @@ number (suc n) v = byte 12 isHex (λ b. number n (v * 16 + digit b))
 abbrev pub sized : ℕ → Form
 sized kind = do
   n ← number 4 0
-  row (dataPieces n) kind
+  row (data_pieces n) kind
 
 -- the identifiers R, P, C, T, U, E
 abbrev pub kind_of : ℕ → Kind
@@ -87,9 +87,9 @@ known Unknown = false
 -- what follows the identifier, up to the stop marker; `Unknown` is refused before it
 unfoldable pub body : Kind → Form
 body (Sized kind) = sized kind
-body Targets = row tPieces 4
-body Status = row uPieces 5
-body Flags = row ePieces 6
+body Targets = row t_pieces 4
+body Status = row u_pieces 5
+body Flags = row e_pieces 6
 body Unknown = whole 0
 
 -- a frame is byte 33, an identifier, a body, then 13 and 10

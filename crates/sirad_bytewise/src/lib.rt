@@ -1,7 +1,7 @@
 // Runs of bytes and the blocks of a target list, byte by byte: where one fails, it is found (paper 01, "SiRad"; paper 02, (ii)).
 
 ghost use Rattle.std.specs.Prelude.{◌≡◌};
-ghost use Rattle.form.specs.Form.{judgeAt};
+ghost use Rattle.form.specs.Form.{judge_at};
 ghost use Rattle.form.specs.Numbers.{Judges};
 ghost use Rattle.sirad.specs.Sirad.{run, target, block};
 ghost use Rattle.sirad.specs.Internal.{class_of};
@@ -32,7 +32,7 @@ pub fn span(s: &[u8], from: usize, n: usize, c: ByteClass) -> Judgement
 
 // A target byte by byte: finds the first that fails.
 fn target_slowly(s: &[u8], at: usize) -> Judgement
-    ensures { result ≡ judgeAt target at s.now }
+    ensures { result ≡ judge_at target at s.now }
 {
     let a = span(s, at, 5, ByteClass::Hex);
     let Judgement::Whole(_, i) = a else {

@@ -15,31 +15,31 @@ passes_append (c ∷ cs) ds [] ys p q = absurd p
 passes_append (c ∷ cs) ds (x ∷ xs) ys p q = (p.0, passes_append cs ds xs ys p.1 q)
 
 -- and each by itself
-pub passes-split : (cs ds : List Class) (bs : List ℕ) → Passes (cs ++ ds) bs
+pub passes_split : (cs ds : List Class) (bs : List ℕ) → Passes (cs ++ ds) bs
     → Passes cs (take (length cs) bs) × Passes ds (drop (length cs) bs)
 unfolding Passes
-passes-split [] ds bs p = (tt, p)
-passes-split (c ∷ cs) ds [] p = absurd p
-passes-split (c ∷ cs) ds (b ∷ bs) p = let g = passes-split cs ds bs p.1 in ((p.0, g.0), g.1)
+passes_split [] ds bs p = (tt, p)
+passes_split (c ∷ cs) ds [] p = absurd p
+passes_split (c ∷ cs) ds (b ∷ bs) p = let g = passes_split cs ds bs p.1 in ((p.0, g.0), g.1)
 
 -- there is a byte for each class
-pub passes-length : (cs : List Class) (bs : List ℕ) → Passes cs bs → length bs ≡ length cs
+pub passes_length : (cs : List Class) (bs : List ℕ) → Passes cs bs → length bs ≡ length cs
 unfolding Passes
-passes-length [] [] p = refl
-passes-length [] (b ∷ bs) p = absurd p
-passes-length (c ∷ cs) [] p = absurd p
-passes-length (c ∷ cs) (b ∷ bs) p = ap suc (passes-length cs bs p.1)
+passes_length [] [] p = refl
+passes_length [] (b ∷ bs) p = absurd p
+passes_length (c ∷ cs) [] p = absurd p
+passes_length (c ∷ cs) (b ∷ bs) p = ap suc (passes_length cs bs p.1)
 
 -- digits pass the classes of a hex field
-pub hex-passes : (xs : List ℕ) → AllHex xs → Passes (replicate (length xs) Hex) xs
+pub hex_passes : (xs : List ℕ) → AllHex xs → Passes (replicate (length xs) Hex) xs
 unfolding Passes AllHex
-hex-passes [] h = tt
-hex-passes (x ∷ xs) h = (h.0, hex-passes xs h.1)
+hex_passes [] h = tt
+hex_passes (x ∷ xs) h = (h.0, hex_passes xs h.1)
 
 -- and only digits
-pub passes-hex : (n : ℕ) (xs : List ℕ) → Passes (replicate n Hex) xs → AllHex xs × (length xs ≡ n)
+pub passes_hex : (n : ℕ) (xs : List ℕ) → Passes (replicate n Hex) xs → AllHex xs × (length xs ≡ n)
 unfolding Passes AllHex
-passes-hex zero [] p = (tt, refl)
-passes-hex zero (x ∷ xs) p = absurd p
-passes-hex (suc n) [] p = absurd p
-passes-hex (suc n) (x ∷ xs) p = let g = passes-hex n xs p.1 in ((p.0, g.0), ap suc g.1)
+passes_hex zero [] p = (tt, refl)
+passes_hex zero (x ∷ xs) p = absurd p
+passes_hex (suc n) [] p = absurd p
+passes_hex (suc n) (x ∷ xs) p = let g = passes_hex n xs p.1 in ((p.0, g.0), ap suc g.1)

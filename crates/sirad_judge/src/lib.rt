@@ -1,11 +1,11 @@
 // The judgement of bytes as a SiRad frame, byte by byte (paper 01, "SiRad" and "Judging a place").
 
 ghost use Rattle.std.specs.Prelude.{◌≡◌, true, ◌≤◌};
-ghost use Rattle.digits.specs.Bytes.{isHex};
+ghost use Rattle.digits.specs.Bytes.{is_hex};
 ghost use Rattle.digits.specs.Hex.{digit};
-ghost use Rattle.form.specs.Form.{judgeAt};
+ghost use Rattle.form.specs.Form.{judge_at};
 ghost use Rattle.form.specs.Numbers.{Judges};
-ghost use Rattle.sirad.specs.Rows.{ending, blocks, tPieces, uPieces, ePieces};
+ghost use Rattle.sirad.specs.Rows.{ending, blocks, t_pieces, u_pieces, e_pieces};
 ghost use Rattle.sirad.specs.Sirad.{row, number, head, sized, kind_of, sirad};
 
 use form::Judgement;
@@ -52,7 +52,7 @@ const FLAG_DIGITS: usize = 4;
 
 // What a hex digit stands for: `digits::digit_of` for a byte that is known to be one, with one test instead of four.
 fn digit_of(b: u8) -> u32
-    requires { isHex b ≡ true }
+    requires { is_hex b ≡ true }
     ensures { result ≡ digit b }
 {
     if b < b'A' {
@@ -64,7 +64,7 @@ fn digit_of(b: u8) -> u32
 // The number of n hex digits, which fits.
 fn hex_number(s: &[u8], from: usize, n: usize) -> Judgement
     requires { n ≤ 7 }
-    ensures { result ≡ judgeAt (number n 0) from s.now }
+    ensures { result ≡ judge_at (number n 0) from s.now }
 {
     let mut v: u32 = 0;
     let mut at = from;
@@ -87,7 +87,7 @@ fn hex_number(s: &[u8], from: usize, n: usize) -> Judgement
 }
 
 fn stop(s: &[u8], at: usize, kind: u32) -> Judgement
-    ensures { result ≡ judgeAt (row ending kind) at s.now }
+    ensures { result ≡ judge_at (row ending kind) at s.now }
 {
     let a = fixed_at(s, at, CR, NO_STOP);
     let Judgement::Whole(_, i) = a else {
@@ -102,7 +102,7 @@ fn stop(s: &[u8], at: usize, kind: u32) -> Judgement
 
 // Format and gain.
 fn head_at(s: &[u8], at: usize) -> Judgement
-    ensures { result ≡ judgeAt head at s.now }
+    ensures { result ≡ judge_at head at s.now }
 {
     let a = byte_of(s, at, ByteClass::Hex);
     let Judgement::Whole(_, i) = a else {
@@ -117,7 +117,7 @@ fn head_at(s: &[u8], at: usize) -> Judgement
 
 // n blocks and the stop marker.
 fn blocks_from(s: &[u8], from: usize, n: usize) -> Judgement
-    ensures { result ≡ judgeAt (row (blocks n) 4) from s.now }
+    ensures { result ≡ judge_at (row (blocks n) 4) from s.now }
 {
     let mut at = from;
     let mut left = n;
@@ -133,7 +133,7 @@ fn blocks_from(s: &[u8], from: usize, n: usize) -> Judgement
 }
 
 fn data_frame(s: &[u8], at: usize, kind: u32) -> Judgement
-    ensures { result ≡ judgeAt (sized kind) at s.now }
+    ensures { result ≡ judge_at (sized kind) at s.now }
 {
     let a = hex_number(s, at, SIZE_DIGITS);
     let Judgement::Whole(n, i) = a else {
@@ -148,7 +148,7 @@ fn data_frame(s: &[u8], at: usize, kind: u32) -> Judgement
 }
 
 fn target_list(s: &[u8], at: usize) -> Judgement
-    ensures { result ≡ judgeAt (row tPieces 4) at s.now }
+    ensures { result ≡ judge_at (row t_pieces 4) at s.now }
 {
     let a = head_at(s, at);
     let Judgement::Whole(_, i) = a else {
@@ -158,7 +158,7 @@ fn target_list(s: &[u8], at: usize) -> Judgement
 }
 
 fn status_update(s: &[u8], at: usize) -> Judgement
-    ensures { result ≡ judgeAt (row uPieces 5) at s.now }
+    ensures { result ≡ judge_at (row u_pieces 5) at s.now }
 {
     let a = head_at(s, at);
     let Judgement::Whole(_, i) = a else {
@@ -172,7 +172,7 @@ fn status_update(s: &[u8], at: usize) -> Judgement
 }
 
 fn error_flags(s: &[u8], at: usize) -> Judgement
-    ensures { result ≡ judgeAt (row ePieces 6) at s.now }
+    ensures { result ≡ judge_at (row e_pieces 6) at s.now }
 {
     let a = hexes(s, at, FLAG_DIGITS);
     let Judgement::Whole(_, i) = a else {

@@ -1,10 +1,10 @@
 // The pieces of a SiRad frame, many bytes at once: runs of bytes, and the blocks of a target list (paper 01, "SiRad"; paper 02, (ii)).
 
 ghost use Rattle.std.specs.Prelude.{◌≡◌, true, ◌+◌, ◌≤◌, length};
-ghost use Rattle.form.specs.Form.{judgeAt};
+ghost use Rattle.form.specs.Form.{judge_at};
 ghost use Rattle.form.specs.Numbers.{Judges};
 ghost use Rattle.sirad.specs.Classes.{Hex, Char};
-ghost use Rattle.sirad.specs.Rows.{behindNumber};
+ghost use Rattle.sirad.specs.Rows.{behind_number};
 ghost use Rattle.sirad.specs.Sirad.{lay, run, block};
 ghost use Rattle.sirad.specs.Internal.{class_of, StepOf};
 
@@ -19,7 +19,7 @@ const CHUNK: usize = 64;
 // Whether all n bytes are of the class, without a branch on data; false says nothing.
 fn all_of(s: &[u8], from: usize, n: usize, c: ByteClass) -> bool
     requires { from + n ≤ length s.now }
-    ensures { result ≡ true → judgeAt (run n (class_of c)) from s.now ≡ Judgement.Whole 0 (from + n) }
+    ensures { result ≡ true → judge_at (run n (class_of c)) from s.now ≡ Judgement.Whole 0 (from + n) }
 {
     let mut ok = true;
     let mut i: usize = 0;
@@ -48,7 +48,7 @@ pub fn hexes(s: &[u8], from: usize, n: usize) -> Judgement
 
 // A few characters, in the same way.
 fn few_chars(s: &[u8], from: usize, n: usize) -> Judgement
-    ensures { result ≡ judgeAt (run n Char) from s.now }
+    ensures { result ≡ judge_at (run n Char) from s.now }
 {
     if from <= s.len() {
         if n <= s.len() - from {
@@ -88,7 +88,7 @@ pub fn chars(s: &[u8], from: usize, n: usize) -> Judgement
 // Whether a target's bytes behind its number stand, without a branch on data; false says nothing.
 fn seen_behind(s: &[u8], p: usize) -> bool
     requires { p + 14 ≤ length s.now }
-    ensures { result ≡ true → judgeAt (lay behindNumber 0) (p + 1) s.now ≡ Judgement.Whole 0 (p + 14) }
+    ensures { result ≡ true → judge_at (lay behind_number 0) (p + 1) s.now ≡ Judgement.Whole 0 (p + 14) }
 {
     let a = all_of(s, p + 1, 4, ByteClass::Hex);
     let b = all_of(s, p + 5, 1, ByteClass::Char);
@@ -102,7 +102,7 @@ fn seen_behind(s: &[u8], p: usize) -> bool
 // Whether a block stands, of the form that its first byte chooses; false says nothing.
 fn seen_block(s: &[u8], p: usize) -> bool
     requires { p + 14 ≤ length s.now }
-    ensures { result ≡ true → judgeAt block p s.now ≡ Judgement.Whole 0 (p + 14) }
+    ensures { result ≡ true → judge_at block p s.now ≡ Judgement.Whole 0 (p + 14) }
 {
     let b = s[p];
     if digits::is_hex(b) {

@@ -1,10 +1,10 @@
 // Writers of SiRad's status and error frames into a lent buffer (paper 01, "SiRad" and "Fields").
 
 ghost use Rattle.std.specs.Prelude.{◌&&◌, ◌≡◌, ◌≤◌, ltb, length};
-ghost use Rattle.digits.specs.Bytes.{isCharacter};
+ghost use Rattle.digits.specs.Bytes.{is_character};
 ghost use Rattle.digits.specs.Stores.{Writes, stored};
-ghost use Rattle.sirad_fields.specs.Fields.{unencoded, statusNumbers, statusRefusal, statusBytes};
-ghost use Rattle.sirad_fields.specs.Fields.{errorRefusal, errorBytes};
+ghost use Rattle.sirad_fields.specs.Fields.{unencoded, status_numbers, status_refusal, status_bytes};
+ghost use Rattle.sirad_fields.specs.Fields.{error_refusal, error_bytes};
 
 use digits::Written;
 use sirad_fields::NO_ENCODING;
@@ -18,7 +18,7 @@ const ERROR_SIZE: usize = 8;
 
 // The refusal of a U frame's values: its five numbers always have an encoding.
 fn status_refusal(format: u8, gain: u8) -> u32
-    ensures { result ≡ unencoded (ltb format 16 && isCharacter gain) }
+    ensures { result ≡ unencoded (ltb format 16 && is_character gain) }
 {
     if 15 < format {
         return NO_ENCODING;
@@ -41,7 +41,7 @@ fn put_status(
 )
     requires { 26 ≤ length out.old }
     ensures { out.new ≡ stored out.old 0
-        (statusBytes (statusNumbers format gain accuracy range ramp bandwidth time)) }
+        (status_bytes (status_numbers format gain accuracy range ramp bandwidth time)) }
 {
     let digit = digits::glyph_of(format as u32);
     stores::put_pair(out, 0, sirad_judge::START_MARKER, b'U');
@@ -66,8 +66,8 @@ pub fn write_status(
     bandwidth: u16,
     time: u16,
 ) -> Written
-    ensures { Writes (statusRefusal (statusNumbers format gain accuracy range ramp bandwidth time))
-        (statusBytes (statusNumbers format gain accuracy range ramp bandwidth time)) out.old result out.new }
+    ensures { Writes (status_refusal (status_numbers format gain accuracy range ramp bandwidth time))
+        (status_bytes (status_numbers format gain accuracy range ramp bandwidth time)) out.old result out.new }
 {
     let unfit = status_refusal(format, gain);
     let refusal = stores::refusal_of(unfit, STATUS_SIZE, out.len());
@@ -85,7 +85,7 @@ pub fn write_status(
 
 fn put_error(out: &mut [u8], flags: u16)
     requires { 8 ≤ length out.old }
-    ensures { out.new ≡ stored out.old 0 (errorBytes flags) }
+    ensures { out.new ≡ stored out.old 0 (error_bytes flags) }
 {
     stores::put_pair(out, 0, sirad_judge::START_MARKER, b'E');
     hex_numbers::put_hex(out, 2, 4, flags as u32);
@@ -94,7 +94,7 @@ fn put_error(out: &mut [u8], flags: u16)
 
 // Writes an E frame, 8 bytes; every u16 has an encoding, so it refuses 51 only.
 pub fn write_error(out: &mut [u8], flags: u16) -> Written
-    ensures { Writes (errorRefusal flags) (errorBytes flags) out.old result out.new }
+    ensures { Writes (error_refusal flags) (error_bytes flags) out.old result out.new }
 {
     let refusal = stores::refusal_of(0, ERROR_SIZE, out.len());
     if refusal != 0 {

@@ -5,7 +5,7 @@ ghost use Rattle.digits.specs.Stores.{Writes, stored};
 ghost use Rattle.sirad.specs.Rows.{characters};
 ghost use Rattle.sirad.specs.Table.{identifier};
 ghost use Rattle.sirad_fields.specs.Values.{fit};
-ghost use Rattle.sirad_fields.specs.Fields.{dataRefusal, dataBytes};
+ghost use Rattle.sirad_fields.specs.Fields.{data_refusal, data_bytes};
 
 use digits::Written;
 use sirad_fields::{DATA_START, NO_ENCODING};
@@ -46,7 +46,7 @@ fn all_characters(content: &[u8]) -> bool
 }
 
 fn data_refusal(kind: u32, content: &[u8]) -> u32
-    ensures { result ≡ dataRefusal kind content.now }
+    ensures { result ≡ data_refusal kind content.now }
 {
     if kind < sirad_judge::RANGE {
         return UNKNOWN_KIND;
@@ -65,7 +65,7 @@ fn data_refusal(kind: u32, content: &[u8]) -> u32
 
 fn put_data(out: &mut [u8], kind: u32, content: &[u8])
     requires { (length content.now ≤ 65535) × (16 + length content.now ≤ length out.old) }
-    ensures { out.new ≡ stored out.old 0 (dataBytes kind content.now) }
+    ensures { out.new ≡ stored out.old 0 (data_bytes kind content.now) }
 {
     let n = content.len();
     let id = identifier_of(kind);
@@ -79,8 +79,8 @@ fn put_data(out: &mut [u8], kind: u32, content: &[u8])
 // Writes a frame R, P or C (kinds 1 to 3) with these characters; refuses 53, 52, 50, 51, in this order.
 // `write_data(out, 1, b"Z")` writes the 17 bytes `!R000100000000Z` CR LF.
 pub fn write_data(out: &mut [u8], kind: u32, content: &[u8]) -> Written
-    ensures { Writes (dataRefusal kind content.now)
-        (dataBytes kind content.now) out.old result out.new }
+    ensures { Writes (data_refusal kind content.now)
+        (data_bytes kind content.now) out.old result out.new }
 {
     let unfit = data_refusal(kind, content);
     let size = 16 + content.len();

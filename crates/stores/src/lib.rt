@@ -1,14 +1,14 @@
 // Stores into a lent buffer, and the refusal of a writer.
 
 ghost use Rattle.std.specs.Prelude.{◌≡◌, [], ◌∷◌, replicate};
-ghost use Rattle.digits.specs.Stores.{storedWithin, writerRefusal};
+ghost use Rattle.digits.specs.Stores.{stored_within, writer_refusal};
 
 use digits::OUTPUT_TOO_SHORT;
 
 // Lays two bytes over the buffer at an offset; changes nothing where they do not fit.
 // `put_pair(out, 6, b'\r', b'\n')` stores a stop marker.
 pub fn put_pair(out: &mut [u8], at: usize, a: u8, b: u8)
-    ensures { out.new ≡ storedWithin out.old at (a ∷ b ∷ []) }
+    ensures { out.new ≡ stored_within out.old at (a ∷ b ∷ []) }
 {
     if out.len() < at {
         return;
@@ -23,7 +23,7 @@ pub fn put_pair(out: &mut [u8], at: usize, a: u8, b: u8)
 // Lays one byte n times over the buffer at an offset; changes nothing where they do not fit.
 // `put_run(out, 6, 8, b'0')` stores `00000000`.
 pub fn put_run(out: &mut [u8], at: usize, n: usize, b: u8)
-    ensures { out.new ≡ storedWithin out.old at (replicate n b) }
+    ensures { out.new ≡ stored_within out.old at (replicate n b) }
 {
     if out.len() < at {
         return;
@@ -41,7 +41,7 @@ pub fn put_run(out: &mut [u8], at: usize, n: usize, b: u8)
 // Lays the bytes of a slice over the buffer at an offset; changes nothing where they do not fit.
 // `put_bytes(out, 0, b"!E")` stores `!E`.
 pub fn put_bytes(out: &mut [u8], at: usize, bytes: &[u8])
-    ensures { out.new ≡ storedWithin out.old at bytes.now }
+    ensures { out.new ≡ stored_within out.old at bytes.now }
 {
     if out.len() < at {
         return;
@@ -59,7 +59,7 @@ pub fn put_bytes(out: &mut [u8], at: usize, bytes: &[u8])
 // The refusal of a writer of so many bytes: that of its values, if there is one, else 51 where the room is too short.
 // `refusal_of(0, 26, 25)` is 51.
 pub fn refusal_of(unfit: u32, size: usize, room: usize) -> u32
-    ensures { result ≡ writerRefusal unfit size room }
+    ensures { result ≡ writer_refusal unfit size room }
 {
     if unfit != 0 {
         return unfit;

@@ -5,47 +5,47 @@ use borrow.Author.Tests.{lt-leb}
 use lib.IntN.{+ℤ_idl}
 use mir.Facts.{to_z_pos}
 use Rattle.digits.proofs.Choices.{test}
-use Rattle.units.specs.Rounding.{signed, Ties, toAway, halfUp, nearest}
+use Rattle.units.specs.Rounding.{signed, Ties, to_away, half_up, nearest}
 use Rattle.units.specs.Float.{negative, exponent, fraction, magnitude}
-use Rattle.units.specs.Units.{value, refused, isEdition, tiesOf, accuracyMillimetres}
-use Rattle.units.specs.Units.{wholeMillimetres, noMillimetres, coordinate, millimetres}
+use Rattle.units.specs.Units.{value, refused, is_edition, ties_of, accuracy_millimetres}
+use Rattle.units.specs.Units.{whole_millimetres, no_millimetres, coordinate, millimetres}
 use Rattle.units.specs.Internal.{Inside, parts, outside}
-use Rattle.units.proofs.Rounding.{half-most, fixed, nearest-scaled}
-use Rattle.units.proofs.Bits.{normal, within-limit, limit-bits, infinite-bits, below-least}
+use Rattle.units.proofs.Rounding.{half_most, fixed, nearest_scaled}
+use Rattle.units.proofs.Bits.{normal, within_limit, limit_bits, infinite_bits, below_least}
 
 -- -- Rounding
 
 -- a value below the half rounds to 0
-near-zero : (ties : Ties) (n d : ℕ) → 2 * n < d → nearest ties n d ≡ 0
+near_zero : (ties : Ties) (n d : ℕ) → 2 * n < d → nearest ties n d ≡ 0
 unfolding nearest
-near-zero ties n d h = div-eq_of_lt (omega (arith, half-most ties (n / d)))
+near_zero ties n d h = div-eq_of_lt (omega (arith, half_most ties (n / d)))
 
 -- a value of at most q rounds to at most q
-nearest-most : (ties : Ties) (n d q : ℕ) → 0 < d → n ≤ q * d → nearest ties n d ≤ q
+nearest_most : (ties : Ties) (n d q : ℕ) → 0 < d → n ≤ q * d → nearest ties n d ≤ q
 unfolding nearest
-nearest-most ties n d q h most =
+nearest_most ties n d q h most =
     let e : suc q * (2 * d) ≡ 2 * (q * d) + 2 * d = suc-mul q (2 * d) ∙ ap (λ (x : ℕ). x + 2 * d) (mul_left_comm q 2 d) in
-    let a : ℕ = 2 * n + (d - 1) + halfUp ties (n / d) in
-    let wide : a < suc q * (2 * d) = omega (arith, half-most ties (n / d)) in
+    let a : ℕ = 2 * n + (d - 1) + half_up ties (n / d) in
+    let wide : a < suc q * (2 * d) = omega (arith, half_most ties (n / d)) in
     let lt : a / (2 * d) < suc q = (div-lt_iff_lt-mul {k = 2 * d} {x = a} {y = suc q} (omega arith)).1 wide in
     omega arith
 
 -- whether a half goes up, by the edition
-pub up-away : (edition q : ℕ) → edition ≡ 1 → 1 ≡ halfUp (tiesOf edition) q
-unfolding tiesOf
-up-away edition q e = simp (eq-eqb edition 1 e)
+pub up_away : (edition q : ℕ) → edition ≡ 1 → 1 ≡ half_up (ties_of edition) q
+unfolding ties_of
+up_away edition q e = simp (eq-eqb edition 1 e)
 
-pub up-even : (edition q : ℕ) → (edition ≡ 1 → ⊥) → q % 2 ≡ halfUp (tiesOf edition) q
-unfolding tiesOf
-up-even edition q n = simp (ne_eqb edition 1 n)
+pub up_even : (edition q : ℕ) → (edition ≡ 1 → ⊥) → q % 2 ≡ half_up (ties_of edition) q
+unfolding ties_of
+up_even edition q n = simp (ne_eqb edition 1 n)
 
 -- -- Parts: 2 ^ 32 of them are a millimetre
 
 module _ (ties : Ties) (p : ℕ) where
   -- with a rest below the half there is no tie
-  pub off-half : (p % 2 ^ 31 ≡ 0 → ⊥) → (p + 2 ^ 31) / 2 ^ 32 ≡ nearest ties p (2 ^ 32)
-  off-half h =
-      let up = half-most ties (p / 2 ^ 32) in
+  pub off_half : (p % 2 ^ 31 ≡ 0 → ⊥) → (p + 2 ^ 31) / 2 ^ 32 ≡ nearest ties p (2 ^ 32)
+  off_half h =
+      let up = half_most ties (p / 2 ^ 32) in
       let rest : ℕ = (p + 2 ^ 31) % 2 ^ 32 in
       test
       (ltb 0 rest)
@@ -57,71 +57,71 @@ module _ (ties : Ties) (p : ℕ) where
   -- with none the value is a number of halves
   pub in_halves : p % 2 ^ 31 ≡ 0 → nearest ties (p / 2 ^ 31) 2 ≡ nearest ties p (2 ^ 32)
   in_halves h =
-      sym (nearest-scaled ties (p / 2 ^ 31) 2 (2 ^ 31) (lit< tt) (lit< tt)) ∙ ap (λ (x : ℕ). nearest ties x (2 ^ 32)) (omega arith)
+      sym (nearest_scaled ties (p / 2 ^ 31) 2 (2 ^ 31) (lit< tt) (lit< tt)) ∙ ap (λ (x : ℕ). nearest ties x (2 ^ 32)) (omega arith)
 
 -- edition 1 takes halves up, as all that is over one
-pub half-away : (edition p : ℕ) → edition ≡ 1 → (p + 2 ^ 31) / 2 ^ 32 ≡ nearest (tiesOf edition) p (2 ^ 32)
-unfolding tiesOf
-half-away edition p e = rw e (sym (fixed toAway p (2 ^ 32) ((p + 2 ^ 31) / 2 ^ 32) (lit< tt) (omega arith) (omega arith)))
+pub half_away : (edition p : ℕ) → edition ≡ 1 → (p + 2 ^ 31) / 2 ^ 32 ≡ nearest (ties_of edition) p (2 ^ 32)
+unfolding ties_of
+half_away edition p e = rw e (sym (fixed to_away p (2 ^ 32) ((p + 2 ^ 31) / 2 ^ 32) (lit< tt) (omega arith) (omega arith)))
 
 -- -- Accuracy
 
 -- an accuracy's millimetres are few
-pub accuracy-small : (ties : Ties) (tenths q : ℕ) → tenths < 2 ^ 16 → q ≡ nearest ties tenths 10 → q < 2 ^ 16
-accuracy-small ties tenths q h e =
-    rw e (lt_of_le_of_lt (nearest-most ties tenths 10 6554 (lit< tt) (omega arith)) (lit< tt))
+pub accuracy_small : (ties : Ties) (tenths q : ℕ) → tenths < 2 ^ 16 → q ≡ nearest ties tenths 10 → q < 2 ^ 16
+accuracy_small ties tenths q h e =
+    rw e (lt_of_le_of_lt (nearest_most ties tenths 10 6554 (lit< tt) (omega arith)) (lit< tt))
 
 -- the millimetres of an edition
-pub accuracy-known : (edition tenths q : ℕ) → isEdition edition ≡ true → q ≡ nearest (tiesOf edition) tenths 10
-    → wholeMillimetres q ≡ accuracyMillimetres edition tenths
-unfolding accuracyMillimetres
-accuracy-known edition tenths q t e = simp (t, e)
+pub accuracy_known : (edition tenths q : ℕ) → is_edition edition ≡ true → q ≡ nearest (ties_of edition) tenths 10
+    → whole_millimetres q ≡ accuracy_millimetres edition tenths
+unfolding accuracy_millimetres
+accuracy_known edition tenths q t e = simp (t, e)
 
 -- no edition of this number
-pub accuracy-unknown : (edition tenths : ℕ) → isEdition edition ≡ false → noMillimetres 32 ≡ accuracyMillimetres edition tenths
-unfolding accuracyMillimetres
-accuracy-unknown edition tenths t = simp t
+pub accuracy_unknown : (edition tenths : ℕ) → is_edition edition ≡ false → no_millimetres 32 ≡ accuracy_millimetres edition tenths
+unfolding accuracy_millimetres
+accuracy_unknown edition tenths t = simp t
 
 -- -- The sign
 
-small-neg : (q : ℕ) → q ≤ 1000000 → SFits w32 (neg_ℤ (pos q))
-small-neg zero h = record { sfits = lit< tt }
-small-neg (suc q) h = record { sfits = omega arith }
+small_neg : (q : ℕ) → q ≤ 1000000 → SFits w32 (neg_ℤ (pos q))
+small_neg zero h = record { sfits = lit< tt }
+small_neg (suc q) h = record { sfits = omega arith }
 
 minus : (q : ℕ) → q ≤ 1000000 → pos 0 -ℤ to_z w32 q ≡ neg_ℤ (pos q)
 minus q h = rw (to_z_pos w32 {n = q} (omega arith)) (+ℤ_idl (neg_ℤ (pos q)))
 
 -- the negation fits
-pub minus-fits : (q : ℕ) → q ≤ 1000000 → SFits w32 (pos 0 -ℤ to_z w32 q)
-minus-fits q h = rw (minus q h) (small-neg q h)
+pub minus_fits : (q : ℕ) → q ≤ 1000000 → SFits w32 (pos 0 -ℤ to_z w32 q)
+minus_fits q h = rw (minus q h) (small_neg q h)
 
 -- the code's number of a negative sign
-pub made-negative : (sign : Bool) (q : ℕ) → q ≤ 1000000 → sign ≡ true
+pub made_negative : (sign : Bool) (q : ℕ) → q ≤ 1000000 → sign ≡ true
     → value (to_z w32 (of_z w32 (pos 0 -ℤ to_z w32 q))) ≡ value (signed sign q)
-made-negative sign q h t = rw (t, minus q h) (ap value (to_z-of_z {w = w32} {z = neg_ℤ (pos q)} (small-neg q h)))
+made_negative sign q h t = rw (t, minus q h) (ap value (to_z-of_z {w = w32} {z = neg_ℤ (pos q)} (small_neg q h)))
 
 -- the code's number of a positive sign
-pub made-positive : (sign : Bool) (q : ℕ) → q ≤ 1000000 → sign ≡ false → value (to_z w32 q) ≡ value (signed sign q)
-made-positive sign q h t = rw t (ap value (to_z_pos w32 {n = q} (omega arith)))
+pub made_positive : (sign : Bool) (q : ℕ) → q ≤ 1000000 → sign ≡ false → value (to_z w32 q) ≡ value (signed sign q)
+made_positive sign q h t = rw t (ap value (to_z_pos w32 {n = q} (omega arith)))
 
 -- both zeros are 0
-signed-zero : (negative : Bool) → signed negative 0 ≡ pos 0
-signed-zero true = refl
-signed-zero false = refl
+signed_zero : (negative : Bool) → signed negative 0 ≡ pos 0
+signed_zero true = refl
+signed_zero false = refl
 
 -- -- A coordinate: `over` is what the bits without the sign are over those of 2 ^ -12 m
 
 -- the difference that wraps, without the sign
-pub over-near : (difference bits : ℕ) → (difference + 0x39800000) % 2 ^ 32 ≡ bits
+pub over_near : (difference bits : ℕ) → (difference + 0x39800000) % 2 ^ 32 ≡ bits
     → (difference % 2 ^ 31 + 0x39800000) % 2 ^ 31 ≡ bits % 2 ^ 31
-over-near difference bits wraps = omega arith
+over_near difference bits wraps = omega arith
 
 -- outside 2 ^ -12 m to 1000 m
-pub coordinate-outside : (ties : Ties) (bits over : ℕ) → (over + 0x39800000) % 2 ^ 31 ≡ bits % 2 ^ 31 → over < 2 ^ 31
+pub coordinate_outside : (ties : Ties) (bits over : ℕ) → (over + 0x39800000) % 2 ^ 31 ≡ bits % 2 ^ 31 → over < 2 ^ 31
     → 0x447A0000 - 0x39800000 < over → refused (outside over) ≡ coordinate ties bits
 unfolding coordinate
-coordinate-outside ties bits over near fits far =
-    rw (infinite-bits bits, limit-bits bits)
+coordinate_outside ties bits over near fits far =
+    rw (infinite_bits bits, limit_bits bits)
     (test
     (leb (2 ^ 31 - 0x39800000) over)
     (λ t.
@@ -131,8 +131,8 @@ coordinate-outside ties bits over near fits far =
       t,
       lt-leb 0x7F800000 (bits % 2 ^ 31) (omega arith),
       le-ltb 0x447A0000 (bits % 2 ^ 31) (omega arith),
-      near-zero ties (1000 * magnitude bits) (2 ^ 150) (below-least bits least),
-      signed-zero (negative bits),
+      near_zero ties (1000 * magnitude bits) (2 ^ 150) (below_least bits least),
+      signed_zero (negative bits),
     ))
     (λ t.
     let above = leb-false (2 ^ 31 - 0x39800000) over t in
@@ -146,17 +146,17 @@ coordinate-outside ties bits over near fits far =
     simp (t, u, lt-leb 0x7F800000 (bits % 2 ^ 31) (omega arith), lt-ltb 0x447A0000 (bits % 2 ^ 31) (omega arith)))))
 
 -- the first edition, the second, and none
-pub first-edition : (edition bits : ℕ) → edition ≡ 1 → coordinate (tiesOf 1) bits ≡ millimetres edition bits
+pub first_edition : (edition bits : ℕ) → edition ≡ 1 → coordinate (ties_of 1) bits ≡ millimetres edition bits
 unfolding millimetres
-first-edition edition bits e = rw e refl
+first_edition edition bits e = rw e refl
 
-pub second-edition : (edition bits : ℕ) → edition ≡ 2 → coordinate (tiesOf 2) bits ≡ millimetres edition bits
+pub second_edition : (edition bits : ℕ) → edition ≡ 2 → coordinate (ties_of 2) bits ≡ millimetres edition bits
 unfolding millimetres
-second-edition edition bits e = rw e refl
+second_edition edition bits e = rw e refl
 
-pub no-edition : (edition bits : ℕ) → (edition ≡ 1 → ⊥) → (edition ≡ 2 → ⊥) → refused 32 ≡ millimetres edition bits
+pub no_edition : (edition bits : ℕ) → (edition ≡ 1 → ⊥) → (edition ≡ 2 → ⊥) → refused 32 ≡ millimetres edition bits
 unfolding millimetres
-no-edition edition bits n m =
+no_edition edition bits n m =
     test
     (leb 1 edition)
     (λ t.
@@ -178,43 +178,43 @@ scaled m s =
 -- inside
 module _ (bits over : ℕ) (inside : Inside bits over) where
   -- no part is lost in the shift
-  pub parts-less : parts bits over < 2 ^ 53
+  pub parts_less : parts bits over < 2 ^ 53
   unfolding parts
-  parts-less =
+  parts_less =
       lt_of_le_of_lt
       (mul-le-mul {n₂ = 2 ^ 31} {m₂ = 2 ^ 21} (omega arith) (pow_mono {i = over / 2 ^ 23} {j = 21} (omega (arith, inside))))
       (lit< tt)
 
   -- 2 ^ 118 of them to the smallest unit of a magnitude
-  parts-scaled : parts bits over * 2 ^ 118 ≡ 1000 * magnitude bits
+  parts_scaled : parts bits over * 2 ^ 118 ≡ 1000 * magnitude bits
   unfolding parts
-  parts-scaled =
+  parts_scaled =
       let e : exponent bits ≡ 115 + over / 2 ^ 23 = omega (arith, inside) in
       rw (normal bits (omega (arith, e)), e) (scaled (2 ^ 23 + fraction bits) (over / 2 ^ 23))
 
   -- the rounding of the parts is that of the exact value
   parts_are : (ties : Ties) → nearest ties (parts bits over) (2 ^ 32) ≡ nearest ties (1000 * magnitude bits) (2 ^ 150)
   parts_are ties =
-      sym (nearest-scaled ties (parts bits over) (2 ^ 32) (2 ^ 118) (lit< tt) (lit< tt))
-      ∙ ap (λ (x : ℕ). nearest ties x (2 ^ 150)) parts-scaled
+      sym (nearest_scaled ties (parts bits over) (2 ^ 32) (2 ^ 118) (lit< tt) (lit< tt))
+      ∙ ap (λ (x : ℕ). nearest ties x (2 ^ 150)) parts_scaled
 
   module _ (ties : Ties) (q : ℕ) (e : q ≡ nearest ties (parts bits over) (2 ^ 32)) where
     -- at most 1000 m is at most a million millimetres
-    pub whole-small : q ≤ 1000000
-    whole-small =
+    pub whole_small : q ≤ 1000000
+    whole_small =
         let most : bits % 2 ^ 31 ≤ 0x447A0000 = omega (arith, inside) in
         rw (e ∙ parts_are ties)
-        (nearest-most ties (1000 * magnitude bits) (2 ^ 150) 1000000 (lit< tt) (mul-le-mul_left 1000 (within-limit bits most)))
+        (nearest_most ties (1000 * magnitude bits) (2 ^ 150) 1000000 (lit< tt) (mul-le-mul_left 1000 (within_limit bits most)))
 
     -- the value that is not refused
-    pub coordinate-inside : value (signed (negative bits) q) ≡ coordinate ties bits
+    pub coordinate_inside : value (signed (negative bits) q) ≡ coordinate ties bits
     unfolding coordinate
-    coordinate-inside =
+    coordinate_inside =
         let most : bits % 2 ^ 31 ≤ 0x447A0000 = omega (arith, inside) in
         rw (
           e ∙ parts_are ties,
-          infinite-bits bits,
-          limit-bits bits,
+          infinite_bits bits,
+          limit_bits bits,
           lt-leb 0x7F800000 (bits % 2 ^ 31) (omega (arith, most)),
           le-ltb 0x447A0000 (bits % 2 ^ 31) most,
         ) refl

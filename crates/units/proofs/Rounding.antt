@@ -6,49 +6,49 @@ use native.Mathlib.Nat.{mul-div-mul_right}
 use native.Mathlib.Nat.{lt-div-mul-add, div-eq_of_lt-le}
 use lib.IntN.{neg_ℤ-neg_ℤ, neg_ℤ-+ℤ}
 use Rattle.digits.proofs.Choices.{test, either}
-use Rattle.units.specs.Rounding.{distance, signed, gap, Nearest, Half, Ties, toAway, toEven, AwayFromZero, EvenAtHalf}
-use Rattle.units.specs.Rounding.{Taken, Rounds, halfUp, nearest}
+use Rattle.units.specs.Rounding.{distance, signed, gap, Nearest, Half, Ties, to_away, to_even, AwayFromZero, EvenAtHalf}
+use Rattle.units.specs.Rounding.{Taken, Rounds, half_up, nearest}
 
 -- -- The gap, over the naturals
 
-natAbs-neg : (z : ℤ) → nat_abs (neg_ℤ z) ≡ nat_abs z
-natAbs-neg (pos zero) = refl
-natAbs-neg (pos (suc n)) = refl
-natAbs-neg (negsuc n) = refl
+nat_abs_neg : (z : ℤ) → nat_abs (neg_ℤ z) ≡ nat_abs z
+nat_abs_neg (pos zero) = refl
+nat_abs_neg (pos (suc n)) = refl
+nat_abs_neg (negsuc n) = refl
 
 -- the magnitude of a signed number
-pub natAbs-signed : (negative : Bool) (m : ℕ) → nat_abs (signed negative m) ≡ m
-natAbs-signed true m = natAbs-neg (pos m)
-natAbs-signed false m = refl
+pub nat_abs_signed : (negative : Bool) (m : ℕ) → nat_abs (signed negative m) ≡ m
+nat_abs_signed true m = nat_abs_neg (pos m)
+nat_abs_signed false m = refl
 
-natAbs-sub : (a b : ℕ) → nat_abs (pos a -ℤ pos b) ≡ distance a b
-natAbs-sub a zero = omega arith
-natAbs-sub a (suc b) =
+nat_abs_sub : (a b : ℕ) → nat_abs (pos a -ℤ pos b) ≡ distance a b
+nat_abs_sub a zero = omega arith
+nat_abs_sub a (suc b) =
     test
     (ltb a (suc b))
     (λ t. let h : a < suc b = ltb-true a (suc b) t in simp t (omega arith))
     (λ t. let h : suc b ≤ a = ltb-false a (suc b) t in simp t (omega arith))
 
-times-neg : (d m : ℕ) → pos d *ℤ neg_ℤ (pos m) ≡ neg_ℤ (pos (d * m))
-times-neg d zero = simp mul-zero
-times-neg d (suc m) = refl
+times_neg : (d m : ℕ) → pos d *ℤ neg_ℤ (pos m) ≡ neg_ℤ (pos (d * m))
+times_neg d zero = simp mul-zero
+times_neg d (suc m) = refl
 
 -- along the value's sign the gap is a distance
-pub gap-along : (negative : Bool) (n d m : ℕ) → gap negative n d (signed negative m) ≡ distance (d * m) n
-gap-along true n d m =
-    ap (λ (z : ℤ). nat_abs (z -ℤ neg_ℤ (pos n))) (times-neg d m)
+pub gap_along : (negative : Bool) (n d m : ℕ) → gap negative n d (signed negative m) ≡ distance (d * m) n
+gap_along true n d m =
+    ap (λ (z : ℤ). nat_abs (z -ℤ neg_ℤ (pos n))) (times_neg d m)
     ∙ ap nat_abs (sym (neg_ℤ-+ℤ (pos (d * m)) (neg_ℤ (pos n))))
-    ∙ natAbs-neg (pos (d * m) -ℤ pos n)
-    ∙ natAbs-sub (d * m) n
-gap-along false n d m = natAbs-sub (d * m) n
+    ∙ nat_abs_neg (pos (d * m) -ℤ pos n)
+    ∙ nat_abs_sub (d * m) n
+gap_along false n d m = nat_abs_sub (d * m) n
 
 -- against the value's sign it is a sum
-pub gap-against : (negative : Bool) (n d m : ℕ) → gap negative n d (signed (not negative) m) ≡ d * m + n
-gap-against true n d m = ap (λ (z : ℤ). nat_abs (pos (d * m) +ℤ z)) (neg_ℤ-neg_ℤ (pos n))
-gap-against false n d m =
-    ap (λ (z : ℤ). nat_abs (z -ℤ pos n)) (times-neg d m)
+pub gap_against : (negative : Bool) (n d m : ℕ) → gap negative n d (signed (not negative) m) ≡ d * m + n
+gap_against true n d m = ap (λ (z : ℤ). nat_abs (pos (d * m) +ℤ z)) (neg_ℤ-neg_ℤ (pos n))
+gap_against false n d m =
+    ap (λ (z : ℤ). nat_abs (z -ℤ pos n)) (times_neg d m)
     ∙ ap nat_abs (sym (neg_ℤ-+ℤ (pos (d * m)) (pos n)))
-    ∙ natAbs-neg (pos (d * m + n))
+    ∙ nat_abs_neg (pos (d * m + n))
 
 -- which of the two a whole number is, with its gap
 pub data Side (negative : Bool) (n d : ℕ) (z : ℤ) : Type 0 where
@@ -57,26 +57,26 @@ pub data Side (negative : Bool) (n d : ℕ) (z : ℤ) : Type 0 where
 
 -- every whole number is one of the two
 pub side : (negative : Bool) (n d : ℕ) (z : ℤ) → Side negative n d z
-side true n d (pos zero) = along 0 refl (gap-along true n d 0)
-side true n d (pos (suc m)) = against m (gap-against true n d (suc m))
-side true n d (negsuc m) = along (suc m) refl (gap-along true n d (suc m))
-side false n d (pos m) = along m refl (gap-along false n d m)
-side false n d (negsuc m) = against m (gap-against false n d (suc m))
+side true n d (pos zero) = along 0 refl (gap_along true n d 0)
+side true n d (pos (suc m)) = against m (gap_against true n d (suc m))
+side true n d (negsuc m) = along (suc m) refl (gap_along true n d (suc m))
+side false n d (pos m) = along m refl (gap_along false n d m)
+side false n d (negsuc m) = against m (gap_against false n d (suc m))
 
 -- -- The closed form, over the naturals
 
 -- a half goes up by at most one
-pub half-most : (ties : Ties) (q : ℕ) → halfUp ties q ≤ 1
-half-most toAway q = omega arith
-half-most toEven q = omega arith
+pub half_most : (ties : Ties) (q : ℕ) → half_up ties q ≤ 1
+half_most to_away q = omega arith
+half_most to_even q = omega arith
 
 -- the closed form without a division
 pub bounds : (ties : Ties) (n d : ℕ) → 0 < d
-    → (2 * (d * nearest ties n d) ≤ 2 * n + (d - 1) + halfUp ties (n / d))
-    × (2 * n + (d - 1) + halfUp ties (n / d) < 2 * (d * nearest ties n d) + 2 * d)
+    → (2 * (d * nearest ties n d) ≤ 2 * n + (d - 1) + half_up ties (n / d))
+    × (2 * n + (d - 1) + half_up ties (n / d) < 2 * (d * nearest ties n d) + 2 * d)
 unfolding nearest
 bounds ties n d h =
-    let a : ℕ = 2 * n + (d - 1) + halfUp ties (n / d) in
+    let a : ℕ = 2 * n + (d - 1) + half_up ties (n / d) in
     let q : ℕ = a / (2 * d) in
     let e : q * (2 * d) ≡ 2 * (d * q) = mul_left_comm q 2 d ∙ ap (λ (x : ℕ). 2 * x) (mul_comm q d) in
     let low : q * (2 * d) ≤ a = div-mul-le_self a (2 * d) in
@@ -84,22 +84,22 @@ bounds ties n d h =
     (omega arith, omega arith)
 
 -- a number with these bounds is the closed form
-pub fixed : (ties : Ties) (n d w : ℕ) → 0 < d → 2 * (d * w) ≤ 2 * n + (d - 1) + halfUp ties (n / d)
-    → 2 * n + (d - 1) + halfUp ties (n / d) < 2 * (d * w) + 2 * d → nearest ties n d ≡ w
+pub fixed : (ties : Ties) (n d w : ℕ) → 0 < d → 2 * (d * w) ≤ 2 * n + (d - 1) + half_up ties (n / d)
+    → 2 * n + (d - 1) + half_up ties (n / d) < 2 * (d * w) + 2 * d → nearest ties n d ≡ w
 unfolding nearest
 fixed ties n d w h low high =
     let e : w * (2 * d) ≡ 2 * (d * w) = mul_left_comm w 2 d ∙ ap (λ (x : ℕ). 2 * x) (mul_comm w d) in
-    div-eq_of_lt-le (2 * d) {m = 2 * n + (d - 1) + halfUp ties (n / d)} (omega arith) (omega (arith, add-mul w 1 (2 * d)))
+    div-eq_of_lt-le (2 * d) {m = 2 * n + (d - 1) + half_up ties (n / d)} (omega arith) (omega (arith, add-mul w 1 (2 * d)))
 
 -- a common factor of numerator and denominator does not matter
-pub nearest-scaled : (ties : Ties) (n d f : ℕ) → 0 < d → 0 < f → nearest ties (n * f) (d * f) ≡ nearest ties n d
-nearest-scaled ties n d f h g = go (halfUp ties (n / d)) refl (half-most ties (n / d)) (bounds ties n d h)
+pub nearest_scaled : (ties : Ties) (n d f : ℕ) → 0 < d → 0 < f → nearest ties (n * f) (d * f) ≡ nearest ties n d
+nearest_scaled ties n d f h g = go (half_up ties (n / d)) refl (half_most ties (n / d)) (bounds ties n d h)
   where
     w : ℕ
     w = nearest ties n d
 
-    up : halfUp ties (n * f / (d * f)) ≡ halfUp ties (n / d)
-    up = ap (halfUp ties) (mul-div-mul_right n d g)
+    up : half_up ties (n * f / (d * f)) ≡ half_up ties (n / d)
+    up = ap (half_up ties) (mul-div-mul_right n d g)
 
     whole : 2 * (d * w) * f ≡ 2 * (d * f * w)
     whole = mul_assoc 2 (d * w) f ∙ ap (λ (x : ℕ). 2 * x) (mul_right_comm d w f)
@@ -116,7 +116,7 @@ nearest-scaled ties n d f h g = go (halfUp ties (n / d)) refl (half-most ties (n
     Bounds : ℕ → Type 0
     Bounds u = (2 * (d * w) ≤ 2 * n + (d - 1) + u) × (2 * n + (d - 1) + u < 2 * (d * w) + 2 * d)
 
-    go : (u : ℕ) → halfUp ties (n / d) ≡ u → u ≤ 1 → Bounds (halfUp ties (n / d)) → nearest ties (n * f) (d * f) ≡ w
+    go : (u : ℕ) → half_up ties (n / d) ≡ u → u ≤ 1 → Bounds (half_up ties (n / d)) → nearest ties (n * f) (d * f) ≡ w
     go zero e least b =
         let low : suc (2 * (d * w)) * f ≤ (2 * n + d) * f = mul-le-mul_right f (omega (arith, b, e)) in
         let high : (2 * n + d) * f ≤ (2 * (d * w) + 2 * d) * f = mul-le-mul_right f (omega (arith, b, e)) in
@@ -132,7 +132,7 @@ nearest-scaled ties n d f h g = go (halfUp ties (n / d)) refl (half-most ties (n
     go (suc (suc u)) e least b = absurd (omega arith)
 
 -- a natural that is as near is at most the closed form that takes halves up
-most : (n d m : ℕ) → 0 < d → 2 * (d * m) ≤ 2 * n + d → m ≤ nearest toAway n d
+most : (n d m : ℕ) → 0 < d → 2 * (d * m) ≤ 2 * n + d → m ≤ nearest to_away n d
 unfolding nearest
 most n d m h low =
     let e : m * (2 * d) ≡ 2 * (d * m) = mul_left_comm m 2 d ∙ ap (λ (x : ℕ). 2 * x) (mul_comm m d) in
@@ -144,18 +144,18 @@ next d m k h = rw (← mul-suc d m) (mul-le-mul_left d h)
 odd : (d m : ℕ) → d * (2 * m + 1) ≡ 2 * (d * m) + d
 odd d m = mul-add d (2 * m) 1 ∙ omega (arith, mul_left_comm d 2 m)
 
-half-along : (n d m : ℕ) → 2 * distance (d * m) n ≡ d → Half n d
+half_along : (n d m : ℕ) → 2 * distance (d * m) n ≡ d → Half n d
 unfolding Half
-half-along n d zero e = (0, omega (arith, odd d 0, mul-zero d))
-half-along n d (suc m) e =
+half_along n d zero e = (0, omega (arith, odd d 0, mul-zero d))
+half_along n d (suc m) e =
     test
     (ltb n (d * suc m))
     (λ t. (m, omega (arith, ltb-true n (d * suc m) t, odd d m, mul-suc d m)))
     (λ t. (suc m, omega (arith, ltb-false n (d * suc m) t, odd d (suc m))))
 
 -- of two even numbers, both within a half of the value, neither is the greater
-even-most : (n d m k : ℕ) → 0 < d → 2 * distance (d * m) n ≤ d → 2 * distance (d * k) n ≤ d → m % 2 ≡ 0 → k % 2 ≡ 0 → k ≤ m
-even-most n d m k h near near' e f =
+even_most : (n d m k : ℕ) → 0 < d → 2 * distance (d * m) n ≤ d → 2 * distance (d * k) n ≤ d → m % 2 ≡ 0 → k % 2 ≡ 0 → k ≤ m
+even_most n d m k h near near' e f =
     test
     (ltb m k)
     (λ t.
@@ -164,33 +164,33 @@ even-most n d m k h near near' e f =
     (λ t. ltb-false m k t)
 
 -- the whole number below an exact half is the quotient
-floor-is : (n d m : ℕ) → 0 < d → 2 * n ≡ d * (2 * m + 1) → n / d ≡ m
-floor-is n d m h e =
+floor_is : (n d m : ℕ) → 0 < d → 2 * n ≡ d * (2 * m + 1) → n / d ≡ m
+floor_is n d m h e =
     let f : m * d ≡ d * m = mul_comm m d in
     div-eq_of_lt-le d {m = n} (omega (arith, odd d m)) (omega (arith, odd d m, add-mul m 1 d))
 
 -- exactly between m and m + 1 the rule decides which of the two it is
-pub at-half : (ties : Ties) (n d m : ℕ) → 0 < d → 2 * n ≡ d * (2 * m + 1) → nearest ties n d ≡ m + halfUp ties m
-at-half ties n d m h e = go (halfUp ties m) refl (half-most ties m)
+pub at_half : (ties : Ties) (n d m : ℕ) → 0 < d → 2 * n ≡ d * (2 * m + 1) → nearest ties n d ≡ m + half_up ties m
+at_half ties n d m h e = go (half_up ties m) refl (half_most ties m)
   where
-    up : halfUp ties (n / d) ≡ halfUp ties m
-    up = ap (halfUp ties) (floor-is n d m h e)
+    up : half_up ties (n / d) ≡ half_up ties m
+    up = ap (half_up ties) (floor_is n d m h e)
 
-    go : (u : ℕ) → halfUp ties m ≡ u → u ≤ 1 → nearest ties n d ≡ m + u
+    go : (u : ℕ) → half_up ties m ≡ u → u ≤ 1 → nearest ties n d ≡ m + u
     go zero f low = fixed ties n d (m + 0) h (omega (arith, up, odd d m, mul-add d m 0)) (omega (arith, up, odd d m, mul-add d m 0))
     go (suc zero) f low = fixed ties n d (m + 1) h (omega (arith, up, odd d m, mul-add d m 1)) (omega (arith, up, odd d m, mul-add d m 1))
     go (suc (suc u)) f low = absurd (omega arith)
 
 -- two rules differ only at exact halves, and there by one (paper 02, (iv))
-pub ties-differ : (n d : ℕ) → 0 < d
-    → (nearest toEven n d ≡ nearest toAway n d) ⊎ (Half n d × (nearest toAway n d ≡ suc (nearest toEven n d)))
+pub ties_differ : (n d : ℕ) → 0 < d
+    → (nearest to_even n d ≡ nearest to_away n d) ⊎ (Half n d × (nearest to_away n d ≡ suc (nearest to_even n d)))
 unfolding Half
-ties-differ n d h =
-    let even : ℕ = nearest toEven n d in
-    let away : ℕ = nearest toAway n d in
-    let e = bounds toEven n d h in
-    let a = bounds toAway n d h in
-    let up = half-most toEven (n / d) in
+ties_differ n d h =
+    let even : ℕ = nearest to_even n d in
+    let away : ℕ = nearest to_away n d in
+    let e = bounds to_even n d h in
+    let a = bounds to_away n d h in
+    let up = half_most to_even (n / d) in
     test
     (ltb even away)
     (λ t.
@@ -210,8 +210,8 @@ ties-differ n d h =
 
 module _ (negative : Bool) (n d : ℕ) (h : 0 < d) where
   -- twice the gap of the closed form is at most d
-  closed-near : (ties : Ties) → 2 * gap negative n d (signed negative (nearest ties n d)) ≤ d
-  closed-near ties = rw (gap-along negative n d (nearest ties n d)) (omega (arith, bounds ties n d h, half-most ties (n / d)))
+  closed_near : (ties : Ties) → 2 * gap negative n d (signed negative (nearest ties n d)) ≤ d
+  closed_near ties = rw (gap_along negative n d (nearest ties n d)) (omega (arith, bounds ties n d h, half_most ties (n / d)))
 
   -- two different whole numbers are at least 1 apart, so their gaps add up to d
   far : (y z : ℤ) → (y ≡ z) ⊎ (d ≤ gap negative n d y + gap negative n d z)
@@ -231,10 +231,10 @@ module _ (negative : Bool) (n d : ℕ) (h : 0 < d) where
           (λ u. inl (e ∙ ap (signed negative) (le_antisymm (ltb-false k m u) (ltb-false m k t)) ∙ sym e')))
 
   -- a whole number is nearest exactly if twice its distance to the value is at most one
-  pub nearest-within-half : (z : ℤ) → Nearest negative n d z ↔ (2 * gap negative n d z ≤ d)
+  pub nearest_within_half : (z : ℤ) → Nearest negative n d z ↔ (2 * gap negative n d z ≤ d)
   unfolding Nearest
-  nearest-within-half z =
-      (λ near. omega (arith, near (signed negative (nearest toAway n d)), closed-near toAway), λ half y. closer half y (far z y))
+  nearest_within_half z =
+      (λ near. omega (arith, near (signed negative (nearest to_away n d)), closed_near to_away), λ half y. closer half y (far z y))
     where
       closer : 2 * gap negative n d z ≤ d → (y : ℤ) → (z ≡ y) ⊎ (d ≤ gap negative n d z + gap negative n d y)
           → gap negative n d z ≤ gap negative n d y
@@ -242,77 +242,77 @@ module _ (negative : Bool) (n d : ℕ) (h : 0 < d) where
       closer half y (inr apart) = omega arith
 
   -- the closed form is nearest, whatever the rule
-  pub nearest-is-nearest : (ties : Ties) → Nearest negative n d (signed negative (nearest ties n d))
-  nearest-is-nearest ties = (nearest-within-half (signed negative (nearest ties n d))).1 (closed-near ties)
+  pub nearest_is_nearest : (ties : Ties) → Nearest negative n d (signed negative (nearest ties n d))
+  nearest_is_nearest ties = (nearest_within_half (signed negative (nearest ties n d))).1 (closed_near ties)
 
   -- a whole number half of one away from the value shows that the value is a half
   half_of : (z : ℤ) → 2 * gap negative n d z ≡ d → Half n d
   half_of z e = go (side negative n d z)
     where
       go : Side negative n d z → Half n d
-      go (along m e' f) = half-along n d m (rw f at e)
+      go (along m e' f) = half_along n d m (rw f at e)
       go (against m f) = absurd (omega (arith, mul-suc d m))
 
   -- off the halves there is one nearest number, whatever the tie rule
-  pub nearest-unique : (Half n d → ⊥) → (y z : ℤ) → Nearest negative n d y → Nearest negative n d z → y ≡ z
-  nearest-unique no-half y z near near' =
+  pub nearest_unique : (Half n d → ⊥) → (y z : ℤ) → Nearest negative n d y → Nearest negative n d z → y ≡ z
+  nearest_unique no-half y z near near' =
       either (far y z) (λ e. e) (λ apart. absurd (no-half (half_of z (half apart))))
     where
       half : d ≤ gap negative n d y + gap negative n d z → 2 * gap negative n d z ≡ d
-      half apart = omega (arith, (nearest-within-half y).0 near, (nearest-within-half z).0 near')
+      half apart = omega (arith, (nearest_within_half y).0 near, (nearest_within_half z).0 near')
 
   -- a nearest number has the value's sign, and its magnitude is at most the closed form that takes halves up
-  pub nearest-along : (z : ℤ) → Nearest negative n d z → (m : ℕ) × (z ≡ signed negative m) × (m ≤ nearest toAway n d)
-  nearest-along z near = go (side negative n d z)
+  pub nearest_along : (z : ℤ) → Nearest negative n d z → (m : ℕ) × (z ≡ signed negative m) × (m ≤ nearest to_away n d)
+  nearest_along z near = go (side negative n d z)
     where
       half : 2 * gap negative n d z ≤ d
-      half = (nearest-within-half z).0 near
+      half = (nearest_within_half z).0 near
 
-      go : Side negative n d z → (m : ℕ) × (z ≡ signed negative m) × (m ≤ nearest toAway n d)
+      go : Side negative n d z → (m : ℕ) × (z ≡ signed negative m) × (m ≤ nearest to_away n d)
       go (along m e f) = (m, e, most n d m h (omega (arith, half)))
       go (against m f) = absurd (omega (arith, half, mul-suc d m))
 
   -- the closed form is what the rule takes
-  pub closed-taken : (ties : Ties) → Taken ties negative n d (signed negative (nearest ties n d))
+  pub closed_taken : (ties : Ties) → Taken ties negative n d (signed negative (nearest ties n d))
   unfolding AwayFromZero EvenAtHalf Half
-  closed-taken toAway = λ y near.
-      let a = nearest-along y near in
-      rw (a.1, natAbs-signed negative a.0, natAbs-signed negative (nearest toAway n d)) a.2
-  closed-taken toEven = λ half.
-      rw (natAbs-signed negative (nearest toEven n d), at-half toEven n d half.0 h half.1) (omega arith)
+  closed_taken to_away = λ y near.
+      let a = nearest_along y near in
+      rw (a.1, nat_abs_signed negative a.0, nat_abs_signed negative (nearest to_away n d)) a.2
+  closed_taken to_even = λ half.
+      rw (nat_abs_signed negative (nearest to_even n d), at_half to_even n d half.0 h half.1) (omega arith)
 
   -- two numbers that round the value are one
-  pub rounds-unique : (ties : Ties) (y z : ℤ) → Rounds ties negative n d y → Rounds ties negative n d z → y ≡ z
+  pub rounds_unique : (ties : Ties) (y z : ℤ) → Rounds ties negative n d y → Rounds ties negative n d z → y ≡ z
   unfolding AwayFromZero EvenAtHalf
-  rounds-unique toAway y z r s =
-      let a = nearest-along y r.0 in
-      let b = nearest-along z s.0 in
-      let up : a.0 ≤ b.0 = rw (a.1, b.1, natAbs-signed negative a.0, natAbs-signed negative b.0) at (s.1 y r.0) in
-      let down : b.0 ≤ a.0 = rw (a.1, b.1, natAbs-signed negative a.0, natAbs-signed negative b.0) at (r.1 z s.0) in
+  rounds_unique to_away y z r s =
+      let a = nearest_along y r.0 in
+      let b = nearest_along z s.0 in
+      let up : a.0 ≤ b.0 = rw (a.1, b.1, nat_abs_signed negative a.0, nat_abs_signed negative b.0) at (s.1 y r.0) in
+      let down : b.0 ≤ a.0 = rw (a.1, b.1, nat_abs_signed negative a.0, nat_abs_signed negative b.0) at (r.1 z s.0) in
       a.1 ∙ ap (signed negative) (le_antisymm up down) ∙ sym b.1
-  rounds-unique toEven y z r s = either (far y z) (λ e. e) (λ apart. same (half_of y (omega (arith, near, near', apart))))
+  rounds_unique to_even y z r s = either (far y z) (λ e. e) (λ apart. same (half_of y (omega (arith, near, near', apart))))
     where
       near : 2 * gap negative n d y ≤ d
-      near = (nearest-within-half y).0 r.0
+      near = (nearest_within_half y).0 r.0
 
       near' : 2 * gap negative n d z ≤ d
-      near' = (nearest-within-half z).0 s.0
+      near' = (nearest_within_half z).0 s.0
 
       same : Half n d → y ≡ z
       same half =
-          let a = nearest-along y r.0 in
-          let b = nearest-along z s.0 in
+          let a = nearest_along y r.0 in
+          let b = nearest_along z s.0 in
           let m = a.0 in
           let k = b.0 in
-          let e : m % 2 ≡ 0 = rw (a.1, natAbs-signed negative m) at (r.1 half) in
-          let f : k % 2 ≡ 0 = rw (b.1, natAbs-signed negative k) at (s.1 half) in
-          let p : 2 * distance (d * m) n ≤ d = rw (a.1, gap-along negative n d m) at near in
-          let q : 2 * distance (d * k) n ≤ d = rw (b.1, gap-along negative n d k) at near' in
-          a.1 ∙ ap (signed negative) (le_antisymm (even-most n d k m h q p f e) (even-most n d m k h p q e f)) ∙ sym b.1
+          let e : m % 2 ≡ 0 = rw (a.1, nat_abs_signed negative m) at (r.1 half) in
+          let f : k % 2 ≡ 0 = rw (b.1, nat_abs_signed negative k) at (s.1 half) in
+          let p : 2 * distance (d * m) n ≤ d = rw (a.1, gap_along negative n d m) at near in
+          let q : 2 * distance (d * k) n ≤ d = rw (b.1, gap_along negative n d k) at near' in
+          a.1 ∙ ap (signed negative) (le_antisymm (even_most n d k m h q p f e) (even_most n d m k h p q e f)) ∙ sym b.1
 
   -- nearest, and at exact halves the one that the rule takes: exactly the closed form
-  pub rounds-exactly : (ties : Ties) (z : ℤ) → Rounds ties negative n d z ↔ (z ≡ signed negative (nearest ties n d))
-  rounds-exactly ties z = (λ r. rounds-unique ties z (signed negative (nearest ties n d)) r closed, λ e. rw e closed)
+  pub rounds_exactly : (ties : Ties) (z : ℤ) → Rounds ties negative n d z ↔ (z ≡ signed negative (nearest ties n d))
+  rounds_exactly ties z = (λ r. rounds_unique ties z (signed negative (nearest ties n d)) r closed, λ e. rw e closed)
     where
       closed : Rounds ties negative n d (signed negative (nearest ties n d))
-      closed = (nearest-is-nearest ties, closed-taken ties)
+      closed = (nearest_is_nearest ties, closed_taken ties)

@@ -14,8 +14,8 @@ abbrev pub fraction : ℕ → ℕ
 fraction bits = bits % 2 ^ 23
 
 -- infinite or no number: every bit of the exponent is set
-abbrev pub notFinite : ℕ → Bool
-notFinite bits = exponent bits == 255
+abbrev pub not_finite : ℕ → Bool
+not_finite bits = exponent bits == 255
 
 -- the significand as a whole number; a subnormal one (exponent 0) has no leading one
 unfoldable pub significand : ℕ → ℕ

@@ -27,8 +27,8 @@ Half n d = (m : ℕ) × (2 * n ≡ d * (2 * m + 1))
 
 -- which of the two nearest numbers is taken: the one away from zero, or the even one (IEEE 754: roundTiesToAway, roundTiesToEven)
 pub data Ties : Type 0 where
-  toAway : Ties
-  toEven : Ties
+  to_away : Ties
+  to_even : Ties
 
 -- of all nearest numbers z is the one away from zero (paper 01, "Numbers")
 unfoldable pub AwayFromZero : Bool → ℕ → ℕ → ℤ → Type 0
@@ -40,18 +40,18 @@ EvenAtHalf n d z = Half n d → unsigned_abs z % 2 ≡ 0
 
 -- z is what the rule takes
 abbrev pub Taken : Ties → Bool → ℕ → ℕ → ℤ → Type 0
-Taken toAway negative n d z = AwayFromZero negative n d z
-Taken toEven negative n d z = EvenAtHalf n d z
+Taken to_away negative n d z = AwayFromZero negative n d z
+Taken to_even negative n d z = EvenAtHalf n d z
 
 -- z rounds the value: no whole number is closer, and at exact halves it is the one that the rule takes
 abbrev pub Rounds : Ties → Bool → ℕ → ℕ → ℤ → Type 0
 Rounds ties negative n d z = Nearest negative n d z × Taken ties negative n d z
 
 -- whether a half goes up from the whole number q below it: 1 or 0
-abbrev pub halfUp : Ties → ℕ → ℕ
-halfUp toAway q = 1
-halfUp toEven q = q % 2
+abbrev pub half_up : Ties → ℕ → ℕ
+half_up to_away q = 1
+half_up to_even q = q % 2
 
 -- the magnitude of the nearest whole number, halves by the rule
 unfoldable pub nearest : Ties → ℕ → ℕ → ℕ
-nearest ties n d = (2 * n + (d - 1) + halfUp ties (n / d)) / (2 * d)
+nearest ties n d = (2 * n + (d - 1) + half_up ties (n / d)) / (2 * d)

@@ -2,8 +2,8 @@
 // `character_units` has what characters mean. Sign and magnitude stay apart up to `signed_quantity`; so all numbers before the last step
 // are whole and not negative, and no rounding but ours takes place.
 ghost use Rattle.std.specs.Prelude.{◌≡◌, ◌^◌, ◌<◌, ◌≤◌};
-ghost use Rattle.units.specs.Rounding.{signed, halfUp, nearest};
-ghost use Rattle.units.specs.Units.{value, refused, isEdition, tiesOf, accuracyMillimetres};
+ghost use Rattle.units.specs.Rounding.{signed, half_up, nearest};
+ghost use Rattle.units.specs.Units.{value, refused, is_edition, ties_of, accuracy_millimetres};
 ghost use Rattle.units.specs.Units.{coordinate, millimetres};
 ghost use Rattle.units.specs.Internal.{Inside, parts, outside};
 
@@ -86,14 +86,14 @@ fn signed_quantity(negative: bool, magnitude: u32) -> Quantity
 
 // Whether there is an edition of this number.
 fn is_edition(edition: u32) -> bool
-    ensures { result ≡ isEdition edition }
+    ensures { result ≡ is_edition edition }
 {
     AWAY_EDITION <= edition && edition <= EVEN_EDITION
 }
 
 // Whether a half above the whole number q goes up, in an edition: 1 or 0.
 fn half_up(edition: u32, q: u32) -> u32
-    ensures { result ≡ halfUp (tiesOf edition) q }
+    ensures { result ≡ half_up (ties_of edition) q }
 {
     if edition == AWAY_EDITION {
         return 1;
@@ -104,14 +104,14 @@ fn half_up(edition: u32, q: u32) -> u32
 // The whole number nearest to n / d, halves by the edition.
 fn rounded(edition: u32, n: u32, d: u32) -> u32
     requires { (n < 2 ^ 30) × (0 < d) × (d < 2 ^ 30) }
-    ensures { result ≡ nearest (tiesOf edition) n d }
+    ensures { result ≡ nearest (ties_of edition) n d }
 {
     (2 * n + (d - 1) + half_up(edition, n / d)) / (2 * d)
 }
 
 // Tenths of a millimetre to whole millimetres: 512 is 51, and 5 is 1 in edition 1 and 0 in edition 2; 32 for any other edition.
 pub fn accuracy_to_millimetres(edition: u32, tenths: u16) -> Accuracy
-    ensures { result ≡ accuracyMillimetres edition tenths }
+    ensures { result ≡ accuracy_millimetres edition tenths }
 {
     if is_edition(edition) {
         let n = tenths as u32;
@@ -153,7 +153,7 @@ fn parts_of(bits: u32, over: u32) -> u64
 // The millimetres of such a coordinate. Only what has no rest below HALF can be an exact half.
 fn inside(edition: u32, bits: u32, over: u32) -> Quantity
     requires { Inside bits over }
-    ensures { result ≡ coordinate (tiesOf edition) bits }
+    ensures { result ≡ coordinate (ties_of edition) bits }
 {
     let negative = bits >> 31 == 1;
     let parts = parts_of(bits, over);
@@ -169,7 +169,7 @@ fn inside(edition: u32, bits: u32, over: u32) -> Quantity
 
 // A coordinate to whole millimetres by an edition that there is.
 fn millimetres_by(edition: u32, bits: u32) -> Quantity
-    ensures { result ≡ coordinate (tiesOf edition) bits }
+    ensures { result ≡ coordinate (ties_of edition) bits }
 {
     // Below LEAST_BITS the difference wraps round to over 2 ^ 30: one test for both ends.
     let over = std::num::wrapping_sub_u32(bits, LEAST_BITS) % SIGN;

@@ -1,7 +1,7 @@
 -- `capture_judge::judge_at` meets its contract.
 use mathlib.Core.Path.{sym, ◌∙◌}
 use borrow.Author.Rules.{rules}
-use Rattle.capture.proofs.EntryLaws.{judges-at, unknown-refused}
+use Rattle.capture.proofs.EntryLaws.{judges_at, unknown_refused}
 use Rattle.capture_judge.proofs.judge_at.Statement.{statement}
 use Rattle.capture_judge.proofs.judge_at.Tie as tie
 
@@ -20,10 +20,10 @@ enum_told c = search rules
 returns : tie.Need-returns
 returns c =
     let at-d = c.before.before in let at-dialect-of = at-d.before.before in
-    judges-at _ _ _ _ _ (sym at-d.d.given.1 ∙ at-dialect-of.dialect-of.ensures) c.judge-known.ensures
+    judges_at _ _ _ _ _ (sym at-d.d.given.1 ∙ at-dialect-of.dialect-of.ensures) c.judge-known.ensures
 
 returns-2 : tie.Need-returns-2
-returns-2 c = judges-at _ _ _ _ _ (sym c.enum_told.given.1 ∙ c.before.before.dialect-of.ensures) (unknown-refused _ _)
+returns-2 c = judges_at _ _ _ _ _ (sym c.enum_told.given.1 ∙ c.before.before.dialect-of.ensures) (unknown_refused _ _)
 
 pub judge-at-spec : {M : Type 1} → statement M
 judge-at-spec =

@@ -1,7 +1,7 @@
 -- `capture_lines::first_frame` meets its contract. A table of three zeros becomes the first row, or stays.
 use borrow.Author.Rules.{rules}
 use native.Mathlib.Omega.{arith}
-use Rattle.capture.proofs.LineLaws.{first-stored}
+use Rattle.capture.proofs.LineLaws.{first_stored}
 use Rattle.capture_lines.proofs.first_frame.Statement.{statement}
 use Rattle.capture_lines.proofs.first_frame.Tie as tie
 
@@ -26,7 +26,7 @@ array-read-kind c = search rules
 returns : tie.Need-returns
 returns c =
     let w = c.before.before.before in let a = w.before.before.args in
-    first-stored a.d _ _ _ _ w.number_of_lem.ensures (omega arith) c.before.closed-reading.ensures
+    first_stored a.d _ _ _ _ w.number_of_lem.ensures (omega arith) c.before.closed-reading.ensures
 
 pub first-frame-spec : {M : Type 1} → statement M
 first-frame-spec =

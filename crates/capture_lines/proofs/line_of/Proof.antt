@@ -72,13 +72,13 @@ stayed = (
   (stay_none_slice (1 ∷ []) tt (plain (λ _. u8)) yes, (stay_none (λ _. bool) yes, tt)),
 )
 
-is-standby : (t : Bool) (xs ys : Bor (List ℕ)) → Holds t → ys ≡ cond t ys xs
-is-standby true xs ys h = refl
-is-standby false xs ys h = absurd h
+is_standby : (t : Bool) (xs ys : Bor (List ℕ)) → Holds t → ys ≡ cond t ys xs
+is_standby true xs ys h = refl
+is_standby false xs ys h = absurd h
 
-is-main : (t : Bool) (xs ys : Bor (List ℕ)) → Holds (not t) → xs ≡ cond t ys xs
-is-main true xs ys h = absurd h
-is-main false xs ys h = refl
+is_main : (t : Bool) (xs ys : Bor (List ℕ)) → Holds (not t) → xs ≡ cond t ys xs
+is_main true xs ys h = absurd h
+is_main false xs ys h = refl
 
 module _ {M : Type 1} {𝓤 : Ura M} (𝓛 : Logic 𝓤) (mem : Memory → SProp 𝓤) (run : Routine → Fun 𝓤) (κ κ' : Lft)
     (q q' : Share) (b : AllOutlive 2 (Line-of.signature).outlives (κ, (κ', tt))) (x y : Bor (List ℕ)) (t : Bool)
@@ -115,24 +115,24 @@ module _ {M : Type 1} {𝓤 : Ura M} (𝓛 : Logic 𝓤) (mem : Memory → SProp
     shortens = qed 𝓛 (‵ Standby ∷ []) ∵ fsplit3 ! $ move ! (2 ∷ []) $ shr_bor_shorten ! κ b.0 $ move ! (1 ∷ 2 ∷ 0 ∷ []) $ fjoin3 ! $
         done !
 
-    exits-standby : Holds t → ent 𝓤 (on_entry 𝓛 Line-of.signature κs (q, (q', tt)) (x, (y, (t, tt))) at) (Post vy)
-    exits-standby h =
+    exits_standby : Holds t → ent 𝓤 (on_entry 𝓛 Line-of.signature κs (q, (q', tt)) (x, (y, (t, tt))) at) (Post vy)
+    exits_standby h =
         qed 𝓛 ((‵ (flft κ q) ⊛ ‵ (flft κ' q') ⊛ ‵ ftrue) ∷ ‵
         (owns (ShrSlice (named 0) κ u8 ∷ ShrSlice (named 1) κ' u8 ∷ bool ∷ []) (x, (y, (t, tt))) at) ∷ []) ∵
         suffices ! _
         (ends_at 𝓛 Line-of.ended stayed (Line-of.clauses 𝓛 mem run) ((κs, (q, (q', tt)), b, (x, (y, (t, tt))), at), tt) vy y
-        (tt, (tt, (tt, tt))) (tt, (tt, (tt, tt)))) $ says ! (is-standby t x y h) $
+        (tt, (tt, (tt, tt))) (tt, (tt, (tt, tt)))) $ says ! (is_standby t x y h) $
         frame ! $ fsplit3 ! $ move ! (1 ∷ []) $ use1 𝓛 (‵ Standby ⊛ ‵ Standby) ((shr_slice_copy 𝓛 (named 1) κ' u8).twice y (vy ∷ []))
         $ split ! $
         move ! (2 ∷ 0 ∷ 3 ∷ []) $ fjoin3 ! $ frame ! $ use1 𝓛 (‵ Short) shortens $ done !
 
-    exits-main : Holds (not t) → ent 𝓤 (on_entry 𝓛 Line-of.signature κs (q, (q', tt)) (x, (y, (t, tt))) at) (Post vx)
-    exits-main h =
+    exits_main : Holds (not t) → ent 𝓤 (on_entry 𝓛 Line-of.signature κs (q, (q', tt)) (x, (y, (t, tt))) at) (Post vx)
+    exits_main h =
         qed 𝓛 ((‵ (flft κ q) ⊛ ‵ (flft κ' q') ⊛ ‵ ftrue) ∷ ‵
         (owns (ShrSlice (named 0) κ u8 ∷ ShrSlice (named 1) κ' u8 ∷ bool ∷ []) (x, (y, (t, tt))) at) ∷ []) ∵
         suffices ! _
         (ends_at 𝓛 Line-of.ended stayed (Line-of.clauses 𝓛 mem run) ((κs, (q, (q', tt)), b, (x, (y, (t, tt))), at), tt) vx x
-        (tt, (tt, (tt, tt))) (tt, (tt, (tt, tt)))) $ says ! (is-main t x y h) $
+        (tt, (tt, (tt, tt))) (tt, (tt, (tt, tt)))) $ says ! (is_main t x y h) $
         frame ! $ fsplit ! $ use1 𝓛 (‵ Main ⊛ ‵ Main) ((shr_slice_copy 𝓛 (named 0) κ u8).twice x (vx ∷ [])) $ split ! $
         move ! (0 ∷ 2 ∷ []) $ fjoin ! $ frame ! $ done !
 
@@ -162,39 +162,39 @@ module _ {M : Type 1} {𝓤 : Ura M} (𝓛 : Logic 𝓤) (mem : Memory → SProp
           returns_within ! Post refl (look ! 8 refl) $ forget ! 0 refl $ forget ! 2 refl $ forget ! 4 refl $ forget ! 6 refl $ forget ! 8
           refl $
           move ! (8 ∷ 9 ∷ []) $ free1 ! $ move ! (6 ∷ 7 ∷ []) $ free1 ! $ move ! (4 ∷ 5 ∷ []) $ free1 ! $ move ! (2 ∷ 3 ∷ []) $ free1 ! $
-          free1 ! $ free0 ! $ by ! (exits-standby h))
+          free1 ! $ free0 ! $ by ! (exits_standby h))
           (λ h. skips ! $ exec ! C Λ (En l₀ l₁ l₂ l₃ l₄) t-3 (at_ret (En l₀ l₁ l₂ l₃ l₄) Post) $
           assigns ! (of_opd ! (load ! (from ! (stop !)) (look ! 6 refl))) (from ! (stop !))
           (init ! 8 refl ((shr_slice_Lawful 𝓛 (named 0) κ u8).typed x (vx ∷ []) px).0) $
           returns ! (look ! 8 refl) $ forget ! 0 refl $ forget ! 2 refl $ forget ! 4 refl $ forget ! 6 refl $ forget ! 8 refl $
           move ! (8 ∷ 9 ∷ []) $ free1 ! $ move ! (6 ∷ 7 ∷ []) $ free1 ! $ move ! (4 ∷ 5 ∷ []) $ free1 ! $ move ! (2 ∷ 3 ∷ []) $ free1 ! $
-          free1 ! $ free0 ! $ by ! (exits-main h)))))))
+          free1 ! $ free0 ! $ by ! (exits_main h)))))))
 
 module _ {M : Type 1} {𝓤 : Ura M} (𝓛 : Logic 𝓤) (mem : Memory → SProp 𝓤) (run : Routine → Fun 𝓤) where
   open 𝓛 use {H}
 
-  line-of-walks : (C : Calls 𝓤 H) (Λ : Loops 𝓤 H)
+  line_of_walks : (C : Calls 𝓤 H) (Λ : Loops 𝓤 H)
       → Walks 𝓛 Line-of.ended stayed (WpFn 𝓤 H C Λ code.function) (Line-of.clauses 𝓛 mem run)
-  line-of-walks C Λ = walked 𝓛 Line-of.ended stayed (Line-of.clauses 𝓛 mem run) (WpFn 𝓤 H C Λ code.function)
+  line_of_walks C Λ = walked 𝓛 Line-of.ended stayed (Line-of.clauses 𝓛 mem run) (WpFn 𝓤 H C Λ code.function)
       (λ κs. (shr_slice_vals, (shr_slice_vals, (bool_vals, tt))))
       (λ κs. (shr_slice_Tells (named 0) κs.0 u8, (shr_slice_Tells (named 1) κs.1.0 u8, (bool_Tells, tt))))
       (λ κs qs bounds a g are. via 𝓤 _ (fst∗ 𝓤 _ (emp 𝓤))
       (walk 𝓛 mem run κs.0 κs.1.0 qs.0 qs.1.0 bounds a.0 a.1.0 a.1.1.0 C Λ are.0 are.1.0))
 
-line-of-meets : {M : Type 1} {𝓤 : Ura M} (𝓛 : Logic 𝓤) →
+line_of_meets : {M : Type 1} {𝓤 : Ura M} (𝓛 : Logic 𝓤) →
     (mem : Memory → SProp 𝓤) (run : Routine → Fun 𝓤) (𝓣 : Tables 𝓤 𝓛.H)
     → Meets 𝓛 Line-of.signature (WpFn 𝓤 𝓛.H 𝓣.C 𝓣.Λ code.function) (Line-of.spec 𝓛 mem run)
-line-of-meets {𝓤 = 𝓤} 𝓛 mem run 𝓣 =
+line_of_meets {𝓤 = 𝓤} 𝓛 mem run 𝓣 =
     walk_Meets 𝓛 Line-of.ended stayed (
       Goes-none_slice 𝓛 2 (0 ∷ []) tt (plain (λ _. u8)) yes,
       (Goes-none_slice 𝓛 2 (1 ∷ []) tt (plain (λ _. u8)) yes, (Goes-none 𝓛 2 (λ _. bool) yes (λ κs x f. refl), tt)),
     )
     (Line-of.clauses 𝓛 mem run) (WpFn 𝓤 𝓛.H 𝓣.C 𝓣.Λ code.function) (WpFn-mono 𝓤 𝓛.H 𝓛.laws 𝓣 code.function)
-    (line-of-walks 𝓛 mem run 𝓣.C 𝓣.Λ)
+    (line_of_walks 𝓛 mem run 𝓣.C 𝓣.Λ)
 
 pub line-of-spec : {M : Type 1} → stated.statement M
 unfolding code.routine tables_of
 line-of-spec 𝓤 𝓛 𝓜 𝓡 =
     entered 𝓤 𝓛.H (triple_of 𝓛 Line-of.signature (Line-of.spec 𝓛 𝓜.mem 𝓡.run))
     (tables 𝓤 𝓛.H 𝓜 𝓡 code.env).C (tables 𝓤 𝓛.H 𝓜 𝓡 code.env).Λ #capture·line-of code.function (code.unfolded 𝓤 𝓛.H 𝓜 𝓡)
-    (line-of-meets 𝓛 𝓜.mem 𝓡.run (tables_of 𝓤 𝓛.H 𝓜 (tables 𝓤 𝓛.H 𝓜 𝓡 code.env)))
+    (line_of_meets 𝓛 𝓜.mem 𝓡.run (tables_of 𝓤 𝓛.H 𝓜 (tables 𝓤 𝓛.H 𝓜 𝓡 code.env)))

@@ -3,7 +3,7 @@ use mathlib.Core.Path.{◌∙◌, ap}
 use Prim.Native.Nat.{◌+◌}
 use native.Mathlib.Omega.{arith}
 use borrow.Author.Rules.{rules}
-use Rattle.case_input.proofs.CaseLaws.{end_none, end-there}
+use Rattle.case_input.proofs.CaseLaws.{end_none, end_there}
 use Rattle.case_input.proofs.case_end.Statement.{statement}
 use Rattle.case_input.proofs.case_end.Tie as tie
 
@@ -36,7 +36,7 @@ add-result-2 c = search rules
 returns-4 : tie.Need-returns-4
 returns-4 c =
     let size = c.before in let a = size.before.before.before.before.args in
-    ap (λ n. a.at + 4 + n) size.word_at.ensures ∙ end-there a.input.now a.at (omega (arith, size.word_at.ensures))
+    ap (λ n. a.at + 4 + n) size.word_at.ensures ∙ end_there a.input.now a.at (omega (arith, size.word_at.ensures))
 
 pub case-end-spec : {M : Type 1} → statement M
 case-end-spec =

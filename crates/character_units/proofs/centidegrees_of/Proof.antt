@@ -3,23 +3,23 @@ use mathlib.Core.Bool.{true}
 use mathlib.Core.Path.{◌≡◌, sym, ◌∙◌}
 use native.Mathlib.Omega.{arith}
 use borrow.Author.Rules.{rules}
-use Rattle.digits.specs.Bytes.{isCharacter}
-use Rattle.digits.proofs.Choices.{within-bounds}
-use Rattle.character_units.proofs.CharacterLaws.{less-fits, centidegrees-value, centidegrees-refused}
+use Rattle.digits.specs.Bytes.{is_character}
+use Rattle.digits.proofs.Choices.{within_bounds}
+use Rattle.character_units.proofs.CharacterLaws.{less_fits, centidegrees_value, centidegrees_refused}
 use Rattle.character_units.proofs.centidegrees_of.Statement.{statement}
 use Rattle.character_units.proofs.centidegrees_of.Tie as tie
 
 is-character-requires : tie.Need-is-character-requires
 is-character-requires c κs = search rules
 
-is : (c : tie.Then1) → isCharacter c.before.before.args.character ≡ true
+is : (c : tie.Then1) → is_character c.before.before.args.character ≡ true
 is c = sym c.before.is-character.ensures ∙ c.if1.true
 
 add-steps : tie.Need-overflow-add-steps
 add-steps c = search rules
 
 sub-steps : tie.Need-overflow-sub-steps
-sub-steps c = let b = within-bounds 34 254 c.before.before.args.character (is c) in omega arith
+sub-steps c = let b = within_bounds 34 254 c.before.before.args.character (is c) in omega arith
 
 mul-turned : tie.Need-overflow-mul-turned
 mul-turned c = search rules
@@ -31,16 +31,16 @@ cast-phase : tie.Need-overflow-cast-phase
 cast-phase c = search rules
 
 sub-phase : tie.Need-overflow-sub-phase
-sub-phase c = less-fits (omega arith) (cast-phase c)
+sub-phase c = less_fits (omega arith) (cast-phase c)
 
 returns : tie.Need-returns
-returns c = centidegrees-value _ (is c)
+returns c = centidegrees_value _ (is c)
 
 refusal-of-requires : tie.Need-refusal-of-requires
 refusal-of-requires c κs = search rules
 
 returns-2 : tie.Need-returns-2
-returns-2 c = c.refusal-of.ensures ∙ centidegrees-refused _ (sym c.before.before.is-character.ensures ∙ c.before.if1.false)
+returns-2 c = c.refusal-of.ensures ∙ centidegrees_refused _ (sym c.before.before.is-character.ensures ∙ c.before.if1.false)
 
 pub centidegrees-of-spec : {M : Type 1} → statement M
 centidegrees-of-spec =

@@ -3,7 +3,7 @@ use native.Mathlib.Omega.{arith}
 use Prim.Native.Nat.{◌-◌}
 use borrow.Author.Rules.{rules}
 use mathlib.Core.Path.{sym, ◌∙◌}
-use Rattle.coordinate_bounds.proofs.BoundLaws.{Narrowed, narrowed-start, narrowed-up, narrowed-down, narrowed-end}
+use Rattle.coordinate_bounds.proofs.BoundLaws.{Narrowed, narrowed_start, narrowed_up, narrowed_down, narrowed_end}
 use Rattle.coordinate_bounds.proofs.greatest.Statement.{statement}
 use Rattle.coordinate_bounds.proofs.greatest.Tie as tie
 
@@ -17,7 +17,7 @@ add-high : tie.Need-overflow-add-high invariant-loop decreases-loop
 add-high c = search rules
 
 loop-holds : tie.Need-loop-init invariant-loop decreases-loop
-loop-holds c = narrowed-start _ _
+loop-holds c = narrowed_start _ _
 
 add-loop : tie.Need-overflow-add-loop invariant-loop decreases-loop
 add-loop c = search rules
@@ -34,7 +34,7 @@ loop-less c = search rules
 loop-again : tie.Need-loop-preserved invariant-loop decreases-loop
 loop-again c =
     let w = c.before in let inv = w.before.before.loop.invariant in
-    narrowed-up _ _ _ _ _ (omega arith) (omega arith) inv (sym w.is_Within.ensures ∙ c.if1.true)
+    narrowed_up _ _ _ _ _ (omega arith) (omega arith) inv (sym w.is_Within.ensures ∙ c.if1.true)
 
 loop-less-2 : tie.Need-loop-smaller-2 invariant-loop decreases-loop
 loop-less-2 c = search rules
@@ -42,10 +42,10 @@ loop-less-2 c = search rules
 loop-again-2 : tie.Need-loop-preserved-2 invariant-loop decreases-loop
 loop-again-2 c =
     let w = c.before in let inv = w.before.before.loop.invariant in
-    narrowed-down _ _ _ _ _ (omega arith) (omega arith) inv (sym w.is_Within.ensures ∙ c.if1.false)
+    narrowed_down _ _ _ _ _ (omega arith) (omega arith) inv (sym w.is_Within.ensures ∙ c.if1.false)
 
 returns : tie.Need-returns invariant-loop decreases-loop
-returns c = narrowed-end _ _ _ _ (omega arith) c.before.loop.invariant
+returns c = narrowed_end _ _ _ _ (omega arith) c.before.loop.invariant
 
 pub greatest-spec : {M : Type 1} → statement M
 greatest-spec =

@@ -1,6 +1,6 @@
 -- `coordinate_bounds::is_within` meets its contract: a float without a sign has no negative millimetres.
 use borrow.Author.Rules.{rules}
-use Rattle.coordinate_bounds.proofs.BoundLaws.{refused-not-within, natural, measured}
+use Rattle.coordinate_bounds.proofs.BoundLaws.{refused_not_within, natural, measured}
 use Rattle.coordinate_bounds.proofs.is_within.Statement.{statement}
 use Rattle.coordinate_bounds.proofs.is_within.Tie as tie
 
@@ -8,7 +8,7 @@ coordinate-to-millimetres-requires : tie.Need-coordinate-to-millimetres-requires
 coordinate-to-millimetres-requires c κs = search rules
 
 returns : tie.Need-returns
-returns c = refused-not-within _ _ _ _ c.before.before.coordinate-to-millimetres.ensures c.if1.true
+returns c = refused_not_within _ _ _ _ c.before.before.coordinate-to-millimetres.ensures c.if1.true
 
 cast-result : tie.Need-overflow-cast-result
 cast-result c =

@@ -1,7 +1,7 @@
 -- `coordinate_bounds::limit_of` meets its contract: 32, then 33, else what the search ends at.
 use native.Mathlib.Omega.{arith}
 use borrow.Author.Rules.{rules}
-use Rattle.coordinate_bounds.proofs.BoundLaws.{bound-no-edition, bound-too-distant, bound-found}
+use Rattle.coordinate_bounds.proofs.BoundLaws.{bound_no_edition, bound_too_distant, bound_found}
 use Rattle.coordinate_bounds.proofs.limit_of.Statement.{statement}
 use Rattle.coordinate_bounds.proofs.limit_of.Tie as tie
 
@@ -9,12 +9,12 @@ coordinate-to-millimetres-requires : tie.Need-coordinate-to-millimetres-requires
 coordinate-to-millimetres-requires c κs = search rules
 
 returns : tie.Need-returns
-returns c = bound-no-edition _ _ _ c.before.before.coordinate-to-millimetres.ensures c.if1.true
+returns c = bound_no_edition _ _ _ c.before.before.coordinate-to-millimetres.ensures c.if1.true
 
 returns-2 : tie.Need-returns-2
 returns-2 c =
     let w = c.before in
-    bound-too-distant _ _ _ w.before.before.coordinate-to-millimetres.ensures w.if1.false c.if2.true
+    bound_too_distant _ _ _ w.before.before.coordinate-to-millimetres.ensures w.if1.false c.if2.true
 
 greatest-requires : tie.Need-greatest-requires
 greatest-requires c κs = search rules
@@ -29,7 +29,7 @@ returns-3 : tie.Need-returns-3
 returns-3 c =
     let w = c.before in
     let v = w.before in
-    bound-found _ _ _ v.before.before.coordinate-to-millimetres.ensures _ v.if1.false w.if2.false c.greatest.ensures
+    bound_found _ _ _ v.before.before.coordinate-to-millimetres.ensures _ v.if1.false w.if2.false c.greatest.ensures
 
 pub limit-of-spec : {M : Type 1} → statement M
 limit-of-spec =

@@ -1,12 +1,12 @@
 -- Each return is one case of the framing.
 use native.Mathlib.Omega.{arith}
-use Rattle.demorad.proofs.ReadingLaws.{framing-short, at_rest, at-empty, at_size, at-fine}
+use Rattle.demorad.proofs.ReadingLaws.{framing_short, at_rest, at_empty, at_size, at_fine}
 use borrow.Author.Rules.{rules}
 use Rattle.demorad_read.proofs.framing_of.Statement.{statement}
 use Rattle.demorad_read.proofs.framing_of.Tie as tie
 
 returns : tie.Need-returns
-returns c = framing-short _ (omega arith)
+returns c = framing_short _ (omega arith)
 
 word-at-requires : tie.Need-word-at-requires
 word-at-requires c κs = search rules
@@ -27,7 +27,7 @@ returns-3 c =
     let n = c.before in
     let r = n.before.before in
     let w = r.before in
-    at-empty _ _ _ (omega arith) w.word_at.ensures r.rest_of.ensures n.before.if2.false _ n.length-of.ensures
+    at_empty _ _ _ (omega arith) w.word_at.ensures r.rest_of.ensures n.before.if2.false _ n.length-of.ensures
     c.if3.true
 
 cast-size : tie.Need-overflow-cast-size
@@ -49,7 +49,7 @@ returns-5 c =
     let n = c.before.before in
     let r = n.before.before in
     let w = r.before in
-    at-fine _ _ _ (omega arith) w.word_at.ensures r.rest_of.ensures n.before.if2.false _ n.length-of.ensures
+    at_fine _ _ _ (omega arith) w.word_at.ensures r.rest_of.ensures n.before.if2.false _ n.length-of.ensures
     c.before.if3.false c.if4.false
 
 pub framing-of-spec : {M : Type 1} → statement M

@@ -5,7 +5,7 @@ use native.Mathlib.Omega.{arith}
 use lib.ListN.{drop}
 use lib.Seq.{sets}
 use Rattle.demorad.specs.Reading.{words_of, padded}
-use Rattle.demorad.proofs.ReadingLaws.{payload-starts, payload-turns, payload-ends}
+use Rattle.demorad.proofs.ReadingLaws.{payload_starts, payload_turns, payload_ends}
 use Rattle.demorad_read.proofs.payload.Statement.{statement}
 use Rattle.demorad_read.proofs.payload.Tie as tie
 
@@ -18,7 +18,7 @@ abbrev decreases-loop : tie.decreases-loop
 decreases-loop bytes count words₀ at₀ i₀ words at i = count - i
 
 loop-holds : tie.Need-loop-init invariant-loop decreases-loop
-loop-holds c = let a = c.before.args in (omega arith, refl, payload-starts a.count (drop 4 a.bytes.now) (omega arith))
+loop-holds c = let a = c.before.args in (omega arith, refl, payload_starts a.count (drop 4 a.bytes.now) (omega arith))
 
 word-at-requires : tie.Need-word-at-requires invariant-loop decreases-loop
 word-at-requires c κs = tt
@@ -45,7 +45,7 @@ loop-again c =
     let l = lp.loop in (
       omega arith,
       omega arith,
-      payload-turns a.count l.i l.at _ a.bytes.now l.words _ (omega arith) (omega arith) c.word_at.ensures l.invariant.2,
+      payload_turns a.count l.i l.at _ a.bytes.now l.words _ (omega arith) (omega arith) c.word_at.ensures l.invariant.2,
     )
 
 returns : tie.Need-returns invariant-loop decreases-loop
@@ -53,7 +53,7 @@ returns c =
     let lp = c.before in
     let a = lp.before.before.args in
     let l = lp.loop in
-    payload-ends a.count l.i l.at a.bytes.now l.words _ (omega arith) l.invariant.2
+    payload_ends a.count l.i l.at a.bytes.now l.words _ (omega arith) l.invariant.2
 
 pub payload-spec : {M : Type 1} → statement M
 payload-spec =

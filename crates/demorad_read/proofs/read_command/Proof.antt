@@ -2,8 +2,8 @@
 use mathlib.Core.Path.{◌≡◌, ◌∙◌, sym, ap}
 use Prim.Native.Nat.{ℕ, ◌-◌}
 use native.Mathlib.Omega.{arith}
-use Rattle.demorad.specs.Reading.{length_of, headerOf}
-use Rattle.demorad.proofs.ReadingLaws.{is_framed, read-unframed, read-illegal, read_done}
+use Rattle.demorad.specs.Reading.{length_of, header_of}
+use Rattle.demorad.proofs.ReadingLaws.{is_framed, read_unframed, read_illegal, read_done}
 use borrow.Author.Rules.{rules}
 use Rattle.demorad_read.proofs.read_command.Statement.{statement}
 use Rattle.demorad_read.proofs.read_command.Tie as tie
@@ -17,7 +17,7 @@ refused-requires c κs = search rules
 returns : tie.Need-returns
 returns c =
     let f = c.before.before in
-    c.refused.ensures ∙ read-unframed f.before.before.args.bytes.now _ f.framing-of.ensures c.before.if1.true
+    c.refused.ensures ∙ read_unframed f.before.before.args.bytes.now _ f.framing-of.ensures c.before.if1.true
 
 word-at-requires : tie.Need-word-at-requires
 word-at-requires c κs = search rules
@@ -34,7 +34,7 @@ sub-count c =
     let f = w.before.before in
     let bs = f.before.before.args.bytes.now in
     let framed = is_framed bs (sym f.framing-of.ensures ∙ w.before.if1.false) in
-    let same : c.length-of.result ≡ length_of (headerOf bs) = c.length-of.ensures ∙ ap length_of w.word_at.ensures in
+    let same : c.length-of.result ≡ length_of (header_of bs) = c.length-of.ensures ∙ ap length_of w.word_at.ensures in
     omega arith
 
 cast-payload : tie.Need-overflow-cast-payload
@@ -46,7 +46,7 @@ payload-requires c κs =
     let f = w.before.before in
     let bs = f.before.before.args.bytes.now in
     let framed = is_framed bs (sym f.framing-of.ensures ∙ w.before.if1.false) in
-    let same : c.length-of.result ≡ length_of (headerOf bs) = c.length-of.ensures ∙ ap length_of w.word_at.ensures in
+    let same : c.length-of.result ≡ length_of (header_of bs) = c.length-of.ensures ∙ ap length_of w.word_at.ensures in
     (omega arith, omega arith)
 
 command-refusal-requires : tie.Need-command-refusal-requires
@@ -64,7 +64,7 @@ returns-2 c =
     let w = k.before in
     let f = w.before.before in
     c.refused2.ensures
-    ∙ read-illegal f.before.before.args.bytes.now _ _ _ _ _ (sym f.framing-of.ensures ∙ w.before.if1.false)
+    ∙ read_illegal f.before.before.args.bytes.now _ _ _ _ _ (sym f.framing-of.ensures ∙ w.before.if1.false)
     w.word_at.ensures k.code_of_lem.ensures (ap (λ (m : ℕ). m - 1) n.length-of.ensures)
     p.payload.ensures l.command-refusal.ensures.0 c.before.if2.true
 

@@ -4,9 +4,9 @@ use Prim.Native.Nat.{◌+◌, ◌-◌, ◌*◌, ◌≤◌}
 use native.Mathlib.Omega.{arith}
 use lib.ListN.{length, take, drop, get_or}
 use Rattle.digits.specs.Stores.{stored}
-use Rattle.digits.proofs.StoreLaws.{length-word-stored}
+use Rattle.digits.proofs.StoreLaws.{length_word_stored}
 use Rattle.demorad.specs.Image.{word_bytes}
-use Rattle.demorad.proofs.WritingLaws.{put-turns, put-ends}
+use Rattle.demorad.proofs.WritingLaws.{put_turns, put_ends}
 use Rattle.demorad_write.proofs.put_payload.Statement.{statement}
 use Rattle.demorad_write.proofs.put_payload.Tie as tie
 
@@ -47,11 +47,11 @@ loop-again c =
     let l = lp.loop in
     let p = word.put_word in
     let same : length p.new.0 ≡ length l.out =
-    ap length p.ensures ∙ length-word-stored l.out l.at (get_or a.t3 l.i 0) in (
+    ap length p.ensures ∙ length_word_stored l.out l.at (get_or a.t3 l.i 0) in (
       omega arith,
       omega arith,
       omega arith,
-      put-turns a.n l.i l.at a.t3 l.out _ _ (omega arith) (omega arith) (omega arith) p.ensures l.invariant.3,
+      put_turns a.n l.i l.at a.t3 l.out _ _ (omega arith) (omega arith) (omega arith) p.ensures l.invariant.3,
     )
 
 same_length : tie.Need-same-length invariant-loop decreases-loop
@@ -62,7 +62,7 @@ returns c =
     let lp = c.before in
     let a = lp.before.before.args in
     let l = lp.loop in
-    put-ends a.n l.i l.at a.t3 l.out _ (omega arith) l.invariant.3
+    put_ends a.n l.i l.at a.t3 l.out _ (omega arith) l.invariant.3
 
 pub put-payload-spec : {M : Type 1} → statement M
 put-payload-spec =

@@ -2,11 +2,11 @@
 use mathlib.Core.Path.{◌≡◌, ◌∙◌, sym, ap}
 use native.Mathlib.Omega.{arith}
 use lib.ListN.{length}
-use Rattle.digits.proofs.StoreLaws.{unfit, short, done, length-word-stored}
+use Rattle.digits.proofs.StoreLaws.{unfit, short, done, length_word_stored}
 use Rattle.demorad.specs.Rules.{legality}
-use Rattle.demorad.specs.Image.{commandBytes}
-use Rattle.demorad.proofs.RuleLaws.{is-legal}
-use Rattle.demorad.proofs.WritingLaws.{length-command, put-command}
+use Rattle.demorad.specs.Image.{command_bytes}
+use Rattle.demorad.proofs.RuleLaws.{is_legal}
+use Rattle.demorad.proofs.WritingLaws.{length_command, put_command}
 use borrow.Author.Rules.{rules}
 use Rattle.demorad_write.proofs.write_command.Statement.{statement}
 use Rattle.demorad_write.proofs.write_command.Tie as tie
@@ -29,10 +29,10 @@ returns-2 c =
     let l = test.before in
     let a = l.before.before.args in
     let ok : legality a.code a.count a.words ≡ 0 = sym l.command-refusal.ensures.0 ∙ test.if1.false in
-    let legal = is-legal a.code a.count a.words ok in
+    let legal = is_legal a.code a.count a.words ok in
     let thirty = l.command-refusal.ensures.1 in
-    let bytes = commandBytes a.rd a.code a.count a.words in
-    let size = length-command a.rd a.code a.count a.words (omega arith) in
+    let bytes = command_bytes a.rd a.code a.count a.words in
+    let size = length_command a.rd a.code a.count a.words (omega arith) in
     short _ bytes a.out.now ok (omega arith)
 
 header-word-requires : tie.Need-header-word-requires
@@ -41,7 +41,7 @@ header-word-requires c κs =
     let l = test.before in
     let a = l.before.before.args in
     let ok : legality a.code a.count a.words ≡ 0 = sym l.command-refusal.ensures.0 ∙ test.if1.false in
-    let legal = is-legal a.code a.count a.words ok in
+    let legal = is_legal a.code a.count a.words ok in
     (legal.small, legal.few)
 
 put-word-requires : tie.Need-put-word-requires
@@ -55,10 +55,10 @@ put-payload-requires c κs =
     let l = test.before in
     let a = l.before.before.args in
     let ok : legality a.code a.count a.words ≡ 0 = sym l.command-refusal.ensures.0 ∙ test.if1.false in
-    let legal = is-legal a.code a.count a.words ok in
+    let legal = is_legal a.code a.count a.words ok in
     let p = word.put_word in
     let same : length p.new.0 ≡ length a.out.now =
-    ap length p.ensures ∙ length-word-stored a.out.now 0 header.header-word.result in
+    ap length p.ensures ∙ length_word_stored a.out.now 0 header.header-word.result in
     (omega arith, omega arith)
 
 same_length : tie.Need-same-length
@@ -73,13 +73,13 @@ returns-3 c =
     let l = test.before in
     let a = l.before.before.args in
     let ok : legality a.code a.count a.words ≡ 0 = sym l.command-refusal.ensures.0 ∙ test.if1.false in
-    let legal = is-legal a.code a.count a.words ok in
+    let legal = is_legal a.code a.count a.words ok in
     let thirty = l.command-refusal.ensures.1 in
-    let bytes = commandBytes a.rd a.code a.count a.words in
-    let size = length-command a.rd a.code a.count a.words (omega arith) in
+    let bytes = command_bytes a.rd a.code a.count a.words in
+    let size = length_command a.rd a.code a.count a.words (omega arith) in
     let h = header.header-word in
     done _ bytes a.out.now _ _ ok size (omega arith)
-    (put-command a.rd a.code a.count h.result a.words a.out.now _ _ (omega arith) h.ensures
+    (put_command a.rd a.code a.count h.result a.words a.out.now _ _ (omega arith) h.ensures
     word.put_word.ensures payload.put_payload.ensures)
 
 pub write-command-spec : {M : Type 1} → statement M

@@ -1,7 +1,7 @@
 -- A figure or a letter.
 use borrow.Author.Rules.{rules}
 use mathlib.Core.Path.{◌∙◌}
-use Rattle.digits.proofs.HexLaws.{hex-of}
+use Rattle.digits.proofs.HexLaws.{hex_of}
 use Rattle.digits.proofs.is_hex.Statement.{statement}
 use Rattle.digits.proofs.is_hex.Tie as tie
 
@@ -16,7 +16,7 @@ either-requires c κs = search rules
 
 returns : tie.Need-returns
 returns c = let letter = c.before in let figure = letter.before in
-    c.either.ensures ∙ hex-of figure.before.args.b _ _ figure.between.ensures letter.between2.ensures
+    c.either.ensures ∙ hex_of figure.before.args.b _ _ figure.between.ensures letter.between2.ensures
 
 pub is-hex-spec : {M : Type 1} → statement M
 is-hex-spec = tie.close (tie.spec between-requires between-requires-2 either-requires returns)

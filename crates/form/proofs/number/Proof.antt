@@ -2,18 +2,18 @@
 use borrow.Author.Rules.{rules}
 use native.Mathlib.Omega.{arith}
 use Rattle.form.specs.Pieces.{any, always}
-use Rattle.form.proofs.PieceLaws.{judges, four-waits, number-there}
+use Rattle.form.proofs.PieceLaws.{judges, four_waits, number_there}
 use Rattle.form.proofs.number.Statement.{statement}
 use Rattle.form.proofs.number.Tie as tie
 
 returns : tie.Need-returns
-returns c = judges (four-waits (always 0) any _ _ (omega arith))
+returns c = judges (four_waits (always 0) any _ _ (omega arith))
 
 sub-if2 : tie.Need-overflow-sub-if2
 sub-if2 c = search rules
 
 returns-2 : tie.Need-returns-2
-returns-2 c = judges (four-waits (always 0) any _ _ (omega arith))
+returns-2 c = judges (four_waits (always 0) any _ _ (omega arith))
 
 shared-slice-read-join : tie.Need-shared-slice-read-join
 shared-slice-read-join c = search rules
@@ -43,7 +43,7 @@ add-end : tie.Need-overflow-add-end
 add-end c = search rules
 
 returns-3 : tie.Need-returns-3
-returns-3 c = judges (number-there _ _ (omega arith) c.join.ensures)
+returns-3 c = judges (number_there _ _ (omega arith) c.join.ensures)
 
 pub number-spec : {M : Type 1} → statement M
 number-spec =

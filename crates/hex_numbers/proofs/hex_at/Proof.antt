@@ -2,13 +2,13 @@
 use mathlib.Core.Path.{◌∙◌, sym}
 use Prim.Native.Nat.{min}
 use native.Mathlib.Omega.{arith}
-use Rattle.digits.proofs.HexSteps.{hex-missing, hex-counted}
+use Rattle.digits.proofs.HexSteps.{hex_missing, hex_counted}
 use borrow.Author.Rules.{rules}
 use Rattle.hex_numbers.proofs.hex_at.Statement.{statement}
 use Rattle.hex_numbers.proofs.hex_at.Tie as tie
 
 returns : tie.Need-returns
-returns c = let a = c.before.before.args in sym (hex-missing (min a.n 8) a.at a.s.now (omega arith))
+returns c = let a = c.before.before.args in sym (hex_missing (min a.n 8) a.at a.s.now (omega arith))
 
 least-requires : tie.Need-least-requires
 least-requires c κs = tt
@@ -30,7 +30,7 @@ returns-2 c =
     let left = c.before in
     let most = left.before in
     let a = most.before.before.before.args in
-    c.hex-from.ensures ∙ hex-counted a.n a.at a.s.now most.least.ensures left.least2.ensures
+    c.hex-from.ensures ∙ hex_counted a.n a.at a.s.now most.least.ensures left.least2.ensures
 
 pub hex-at-spec : {M : Type 1} → statement M
 hex-at-spec =

@@ -5,20 +5,20 @@ use native.Mathlib.Omega.{arith}
 use borrow.Author.Rules.{rules}
 use lib.Dec.{lit<}
 use lib.ListN.{take, drop, get_or}
-use Rattle.digits.specs.Hex.{hexFrom, hexAt}
-use Rattle.digits.proofs.HexLaws.{digit-small, hex-grows}
-use Rattle.digits.proofs.HexSteps.{hex-room, hex-start, hex-next, hex-end}
+use Rattle.digits.specs.Hex.{hex_from, hex_at}
+use Rattle.digits.proofs.HexLaws.{digit_small, hex_grows}
+use Rattle.digits.proofs.HexSteps.{hex_room, hex_start, hex_next, hex_end}
 use Rattle.hex_numbers.proofs.hex_from.Statement.{statement}
 use Rattle.hex_numbers.proofs.hex_from.Tie as tie
 
 abbrev invariant-loop : tie.invariant-loop
-invariant-loop s at n v₀ i₀ v i = (i ≤ n) × (v < 16 ^ i) × (hexFrom v (take (n - i) (drop (at + i) s)) ≡ hexAt n at s)
+invariant-loop s at n v₀ i₀ v i = (i ≤ n) × (v < 16 ^ i) × (hex_from v (take (n - i) (drop (at + i) s)) ≡ hex_at n at s)
 
 abbrev decreases-loop : tie.decreases-loop
 decreases-loop s at n v₀ i₀ v i = n - i
 
 loop-holds : tie.Need-loop-init invariant-loop decreases-loop
-loop-holds c = let a = c.before.args in (omega arith, lit< tt, hex-start a.n a.at a.s.now)
+loop-holds c = let a = c.before.args in (omega arith, lit< tt, hex_start a.n a.at a.s.now)
 
 add-digit-of : tie.Need-overflow-add-digit-of invariant-loop decreases-loop
 add-digit-of c = omega arith
@@ -35,7 +35,7 @@ mul-v c =
     let lp = turn.before in
     let start = lp.before.before in
     let l = lp.loop in
-    omega (arith, hex-room l.i start.args.n l.v turn.loop-test.true start.requires.0 l.invariant.1)
+    omega (arith, hex_room l.i start.args.n l.v turn.loop-test.true start.requires.0 l.invariant.1)
 
 cast-v : tie.Need-overflow-cast-v invariant-loop decreases-loop
 cast-v c = search rules
@@ -47,8 +47,8 @@ add-v c =
     let start = lp.before.before in
     let l = lp.loop in
     let a = start.args in
-    let room = hex-room l.i a.n l.v turn.loop-test.true start.requires.0 l.invariant.1 in
-    omega (arith, room, digit-small (get_or a.s.now (a.at + l.i) 0), c.digit-of.ensures)
+    let room = hex_room l.i a.n l.v turn.loop-test.true start.requires.0 l.invariant.1 in
+    omega (arith, room, digit_small (get_or a.s.now (a.at + l.i) 0), c.digit-of.ensures)
 
 add-i : tie.Need-overflow-add-i invariant-loop decreases-loop
 add-i c = omega arith
@@ -64,17 +64,17 @@ loop-again c =
     let l = lp.loop in
     let a = start.args in
     let d = c.digit-of in
-    let small : d.result < 16 = omega (arith, digit-small (get_or a.s.now (a.at + l.i) 0), d.ensures) in
+    let small : d.result < 16 = omega (arith, digit_small (get_or a.s.now (a.at + l.i) 0), d.ensures) in
     let next =
-    hex-next a.n a.at l.i l.v d.result a.s.now turn.loop-test.true start.requires.1 d.ensures in
-    (omega arith, hex-grows l.i l.v d.result l.invariant.1 small, sym next ∙ l.invariant.2)
+    hex_next a.n a.at l.i l.v d.result a.s.now turn.loop-test.true start.requires.1 d.ensures in
+    (omega arith, hex_grows l.i l.v d.result l.invariant.1 small, sym next ∙ l.invariant.2)
 
 returns : tie.Need-returns invariant-loop decreases-loop
 returns c =
     let lp = c.before in
     let l = lp.loop in
     let a = lp.before.before.args in
-    sym (hex-end a.n a.at l.i l.v a.s.now c.loop-test.false) ∙ l.invariant.2
+    sym (hex_end a.n a.at l.i l.v a.s.now c.loop-test.false) ∙ l.invariant.2
 
 pub hex-from-spec : {M : Type 1} → statement M
 hex-from-spec =

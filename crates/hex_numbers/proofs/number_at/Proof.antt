@@ -1,6 +1,6 @@
 -- Four digits give a number below 16 ^ 4.
 use native.Mathlib.Omega.{arith}
-use Rattle.digits.proofs.HexLaws.{hex-at-below}
+use Rattle.digits.proofs.HexLaws.{hex_at_below}
 use Rattle.hex_numbers.proofs.number_at.Statement.{statement}
 use Rattle.hex_numbers.proofs.number_at.Tie as tie
 
@@ -8,7 +8,7 @@ hex-at-requires : tie.Need-hex-at-requires
 hex-at-requires c κs = tt
 
 cast-result : tie.Need-overflow-cast-result
-cast-result c = let a = c.before.before.args in omega (arith, c.hex-at.ensures, hex-at-below 4 a.at a.s.now)
+cast-result c = let a = c.before.before.args in omega (arith, c.hex-at.ensures, hex_at_below 4 a.at a.s.now)
 
 returns : tie.Need-returns
 returns c = c.hex-at.ensures

@@ -3,27 +3,27 @@ use mathlib.Core.Path.{◌≡◌, refl, sym, ◌∙◌}
 use Prim.Native.Nat.{◌≤◌}
 use native.Mathlib.Omega.{arith}
 use lib.ListN.{length, length-set}
-use Rattle.digits.specs.Hex.{hexDigits}
+use Rattle.digits.specs.Hex.{hex_digits}
 use Rattle.digits.specs.Stores.{stored}
-use Rattle.digits.proofs.HexSteps.{digit-next, digit-end, digits-fit, digits-unfit}
+use Rattle.digits.proofs.HexSteps.{digit_next, digit_end, digits_fit, digits_unfit}
 use Rattle.hex_numbers.proofs.put_hex.Statement.{statement}
 use Rattle.hex_numbers.proofs.put_hex.Tie as tie
 
 abbrev invariant-loop : tie.invariant-loop
 invariant-loop out₀ at n v rest₀ i₀ out rest i =
-    (i ≤ n) × (length out ≡ length out₀) × (stored out at (hexDigits i rest) ≡ stored out₀ at (hexDigits n v))
+    (i ≤ n) × (length out ≡ length out₀) × (stored out at (hex_digits i rest) ≡ stored out₀ at (hex_digits n v))
 
 abbrev decreases-loop : tie.decreases-loop
 decreases-loop out₀ at n v rest₀ i₀ out rest i = i
 
 returns : tie.Need-returns invariant-loop decreases-loop
-returns c = sym (digits-unfit _ _ _ _ (omega arith))
+returns c = sym (digits_unfit _ _ _ _ (omega arith))
 
 sub-if2 : tie.Need-overflow-sub-if2 invariant-loop decreases-loop
 sub-if2 c = omega arith
 
 returns-2 : tie.Need-returns-2 invariant-loop decreases-loop
-returns-2 c = sym (digits-unfit _ _ _ _ (omega arith))
+returns-2 c = sym (digits_unfit _ _ _ _ (omega arith))
 
 loop-holds : tie.Need-loop-init invariant-loop decreases-loop
 loop-holds c = (omega arith, refl, refl)
@@ -50,7 +50,7 @@ loop-again c =
     let a = lp.before.before.before.before.args in
     let l = lp.loop in
     let g = c.glyph-of in
-    let next = digit-next l.out a.at l.i l.rest g.result turn.loop-test.true g.ensures in
+    let next = digit_next l.out a.at l.i l.rest g.result turn.loop-test.true g.ensures in
     (omega arith, simp length-set l.invariant.1, sym next ∙ l.invariant.2)
 
 same_length : tie.Need-same-length invariant-loop decreases-loop
@@ -61,8 +61,8 @@ returns-3 c =
     let lp = c.before in
     let a = lp.before.before.before.before.args in
     let l = lp.loop in
-    let fits = digits-fit a.out.now a.at a.n a.v (omega arith) in
-    sym (digit-end l.out a.at l.i l.rest (omega arith)) ∙ l.invariant.2 ∙ sym fits
+    let fits = digits_fit a.out.now a.at a.n a.v (omega arith) in
+    sym (digit_end l.out a.at l.i l.rest (omega arith)) ∙ l.invariant.2 ∙ sym fits
 
 pub put-hex-spec : {M : Type 1} → statement M
 put-hex-spec =

@@ -5,7 +5,7 @@ use native.Mathlib.Omega.{arith}
 use lib.ListN.{length}
 use lib.Seq.{length-take-le}
 use Rattle.listing.proofs.GatherLaws.{appends}
-use Rattle.listing.proofs.PutLaws.{puts-taken}
+use Rattle.listing.proofs.PutLaws.{puts_taken}
 use borrow.Author.Rules.{rules}
 use Rattle.listing_gather.proofs.append.Statement.{statement}
 use Rattle.listing_gather.proofs.append.Tie as tie
@@ -37,7 +37,7 @@ returns c =
     let fits : n ≤ length a.block.now = omega arith in
     let room : a.size + n ≤ length a.buffer.now = omega (arith, l.least.ensures.1, s.requires.0) in
     let e = l.least.ensures in
-    let puts = puts-taken a.block.now a.buffer.now _ a.size n put.put-bytes.ensures fits room in
+    let puts = puts_taken a.block.now a.buffer.now _ a.size n put.put-bytes.ensures fits room in
     appends puts fits e.0 e.1 s.requires.0 e.2
 
 pub append-spec : {M : Type 1} → statement M

@@ -4,8 +4,8 @@ use mathlib.Core.Path.{◌≡◌, refl, ◌∙◌}
 use Prim.Native.Nat.{◌≤◌, ◌-◌}
 use native.Mathlib.Omega.{arith}
 use lib.ListN.{length}
-use Rattle.listing.proofs.GatherLaws.{Gathered, gathered_none, gathered-more, gathers-all, gathers-failed, read-within}
-use Rattle.listing.proofs.PutLaws.{puts-length}
+use Rattle.listing.proofs.GatherLaws.{Gathered, gathered_none, gathered_more, gathers_all, gathers_failed, read_within}
+use Rattle.listing.proofs.PutLaws.{puts_length}
 use borrow.Author.Rules.{rules}
 use Rattle.listing_gather.proofs.gather.Statement.{statement}
 use Rattle.listing_gather.proofs.gather.Tie as tie
@@ -18,7 +18,7 @@ abbrev decreases-loop : tie.decreases-loop
 decreases-loop block₀ buffer₀ size₀ block buffer size = length buffer₀ - size
 
 returns : tie.Need-returns invariant-loop decreases-loop
-returns c = gathers-failed (gathered_none _) refl
+returns c = gathers_failed (gathered_none _) refl
 
 loop-holds : tie.Need-loop-init invariant-loop decreases-loop
 loop-holds c = (omega arith, refl, refl, gathered_none _)
@@ -42,7 +42,7 @@ returns-2 : tie.Need-returns-2 invariant-loop decreases-loop
 returns-2 c =
     let read = c.before.before.before.before in
     let l = read.before.before.before.loop in let r = read.read-block in
-    gathers-failed l.invariant.3 (r.ensures.1 ∙ l.invariant.2)
+    gathers_failed l.invariant.3 (r.ensures.1 ∙ l.invariant.2)
 
 same-length-3 : tie.Need-same-length-3 invariant-loop decreases-loop
 same-length-3 c = search rules
@@ -54,13 +54,13 @@ returns-3 : tie.Need-returns-3 invariant-loop decreases-loop
 returns-3 c =
     let read = c.before.before.before.before.before.before in
     let l = read.before.before.before.loop in let r = read.read-block in
-    gathers-all l.invariant.3 (r.ensures.1 ∙ l.invariant.2) (omega arith)
+    gathers_all l.invariant.3 (r.ensures.1 ∙ l.invariant.2) (omega arith)
 
 append-requires : tie.Need-append-requires invariant-loop decreases-loop
 append-requires c κs =
     let told = c.before.before.before.before in let read = told.before.before.before.before in
     let l = read.before.before.before.loop in let r = read.read-block in
-    (omega (arith, l.invariant.0, l.invariant.1), read-within _ r.ensures.0 told.input.given.1)
+    (omega (arith, l.invariant.0, l.invariant.1), read_within _ r.ensures.0 told.input.given.1)
 
 loop-less : tie.Need-loop-smaller invariant-loop decreases-loop
 loop-less c =
@@ -73,8 +73,8 @@ loop-again c =
     let appended = c.before.before in let read = appended.before.before.before.before.before.before.before.before.before in
     let l = read.before.before.before.loop in let r = read.read-block in
     let e = appended.append.ensures in
-    let g = gathered-more l.invariant.3 e.puts (omega (arith, e.within)) in
-    (omega (arith, e.within), puts-length e.puts ∙ l.invariant.1, r.ensures.1 ∙ l.invariant.2, g)
+    let g = gathered_more l.invariant.3 e.puts (omega (arith, e.within)) in
+    (omega (arith, e.within), puts_length e.puts ∙ l.invariant.1, r.ensures.1 ∙ l.invariant.2, g)
 
 same-length-5 : tie.Need-same-length-5 invariant-loop decreases-loop
 same-length-5 c = search rules
@@ -85,7 +85,7 @@ same-length-6 c = search rules
 returns-4 : tie.Need-returns-4 invariant-loop decreases-loop
 returns-4 c =
     let l = c.before.loop in
-    gathers-all l.invariant.3 l.invariant.2 (omega arith)
+    gathers_all l.invariant.3 l.invariant.2 (omega arith)
 
 pub gather-spec : {M : Type 1} → statement M
 gather-spec =

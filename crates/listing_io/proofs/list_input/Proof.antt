@@ -2,8 +2,8 @@
 use mathlib.Core.Path.{sym}
 use native.Mathlib.Omega.{arith}
 use lib.Seq.{length-take-le}
-use Rattle.listing.proofs.GatherLaws.{read-counts}
-use Rattle.listing.proofs.ListingLaws.{listing-ends}
+use Rattle.listing.proofs.GatherLaws.{read_counts}
+use Rattle.listing.proofs.ListingLaws.{listing_ends}
 use borrow.Author.Rules.{rules}
 use Rattle.listing_io.proofs.list_input.Statement.{statement}
 use Rattle.listing_io.proofs.list_input.Tie as tie
@@ -41,12 +41,12 @@ returns c = search rules
 array-share-prefix-buffer : tie.Need-array-share-prefix-buffer
 array-share-prefix-buffer c =
     let told = c.before in let gathered = told.before.before.before.before.before in
-    (read-counts gathered.gather.ensures told.input.given.1).0
+    (read_counts gathered.gather.ensures told.input.given.1).0
 
 slice-aggregate-put-listing : tie.Need-slice-aggregate-put-listing
 slice-aggregate-put-listing c =
     let told = c.before.before in let gathered = told.before.before.before.before.before in
-    (read-counts gathered.gather.ensures told.input.given.1).1
+    (read_counts gathered.gather.ensures told.input.given.1).1
 
 slice-aggregate-put-listing-2 : tie.Need-slice-aggregate-put-listing-2
 slice-aggregate-put-listing-2 c = search rules
@@ -55,10 +55,10 @@ put-listing-requires : tie.Need-put-listing-requires
 put-listing-requires c κs = search rules
 
 array-share-prefix-text : tie.Need-array-share-prefix-text
-array-share-prefix-text c = listing-ends _ _ c.before.put-listing.ensures (omega arith)
+array-share-prefix-text c = listing_ends _ _ c.before.put-listing.ensures (omega arith)
 
 slice-aggregate-write-whole : tie.Need-slice-aggregate-write-whole
-slice-aggregate-write-whole c = sym (length-take-le _ _ (listing-ends _ _ c.before.before.put-listing.ensures (omega arith)))
+slice-aggregate-write-whole c = sym (length-take-le _ _ (listing_ends _ _ c.before.before.put-listing.ensures (omega arith)))
 
 write-whole-requires : tie.Need-write-whole-requires
 write-whole-requires c κs = search rules

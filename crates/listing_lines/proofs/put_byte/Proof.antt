@@ -1,5 +1,5 @@
 -- `listing_lines::put_byte` meets its contract: one store.
-use Rattle.listing.proofs.PutLaws.{puts-byte}
+use Rattle.listing.proofs.PutLaws.{puts_byte}
 use borrow.Author.Rules.{rules}
 use Rattle.listing_lines.proofs.put_byte.Statement.{statement}
 use Rattle.listing_lines.proofs.put_byte.Tie as tie
@@ -14,7 +14,7 @@ same_length : tie.Need-same-length
 same_length c = search rules
 
 returns : tie.Need-returns
-returns c = let a = c.args in puts-byte a.out.now a.at a.b
+returns c = let a = c.args in puts_byte a.out.now a.at a.b
 
 pub put-byte-spec : {M : Type 1} → statement M
 put-byte-spec = tie.close (tie.spec slice-write-out add-result same_length returns)

@@ -5,7 +5,7 @@ use lib.ListN.{length-set, length}
 use Rattle.listing.specs.Decimal.{decimals, decimal}
 use native.Mathlib.Omega.{arith}
 use Rattle.digits.specs.Stores.{stored}
-use Rattle.listing.proofs.DecimalLaws.{digit-step, digits-over, length-decimal}
+use Rattle.listing.proofs.DecimalLaws.{digit_step, digits_over, length_decimal}
 use borrow.Author.Rules.{rules}
 use Rattle.listing_lines.proofs.put_decimal.Statement.{statement}
 use Rattle.listing_lines.proofs.put_decimal.Tie as tie
@@ -24,7 +24,7 @@ loop-holds : tie.Need-loop-init invariant-loop decreases-loop
 unfolding decimal
 loop-holds c = let a = c.before.before.args in (
   omega arith,
-  c.width_of_lem.ensures ∙ sym (length-decimal a.v),
+  c.width_of_lem.ensures ∙ sym (length_decimal a.v),
   refl,
   ap (λ (n : ℕ). stored a.out.now a.at (decimals n a.v)) c.width_of_lem.ensures,
 )
@@ -50,7 +50,7 @@ loop-less c = search rules
 loop-again : tie.Need-loop-preserved invariant-loop decreases-loop
 loop-again c =
     let at-loop = c.before in let l = at-loop.loop in let a = at-loop.before.before.before.args in
-    (omega arith, l.invariant.1, simp length-set l.invariant.2, digit-step l.out a.at l.left l.rest (omega arith) ∙ l.invariant.3)
+    (omega arith, l.invariant.1, simp length-set l.invariant.2, digit_step l.out a.at l.left l.rest (omega arith) ∙ l.invariant.3)
 
 add-result : tie.Need-overflow-add-result invariant-loop decreases-loop
 add-result c = search rules
@@ -61,7 +61,7 @@ same_length c = search rules
 returns : tie.Need-returns invariant-loop decreases-loop
 returns c =
     let at-loop = c.before in let l = at-loop.loop in let a = at-loop.before.before.before.args in
-    digits-over l.out a.out.now a.at _ l.left l.rest a.v (omega arith) at-loop.before.width_of_lem.ensures l.invariant.3
+    digits_over l.out a.out.now a.at _ l.left l.rest a.v (omega arith) at-loop.before.width_of_lem.ensures l.invariant.3
 
 pub put-decimal-spec : {M : Type 1} → statement M
 put-decimal-spec =

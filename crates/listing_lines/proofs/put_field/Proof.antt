@@ -1,20 +1,20 @@
 -- `listing_lines::put_field` meets its contract: a tab, then the number.
 use native.Mathlib.Omega.{arith}
-use Rattle.listing.proofs.DecimalLaws.{length-decimal}
-use Rattle.listing.proofs.LineLaws.{length-field}
+use Rattle.listing.proofs.DecimalLaws.{length_decimal}
+use Rattle.listing.proofs.LineLaws.{length_field}
 use Rattle.listing.specs.Lines.{field}
-use Rattle.listing.proofs.PutLaws.{puts_then, puts-length}
+use Rattle.listing.proofs.PutLaws.{puts_then, puts_length}
 use borrow.Author.Rules.{rules}
 use Rattle.listing_lines.proofs.put_field.Statement.{statement}
 use Rattle.listing_lines.proofs.put_field.Tie as tie
 
 put-byte-requires : tie.Need-put-byte-requires
-put-byte-requires c κs = omega (arith, length-field c.before.before.args.v)
+put-byte-requires c κs = omega (arith, length_field c.before.before.args.v)
 
 put-decimal-requires : tie.Need-put-decimal-requires
 put-decimal-requires c κs =
     let tab = c.before.before.before in let v = tab.before.before.before.args.v in let e = tab.put_byte.ensures in
-    omega (arith, length-field v, length-decimal v, e.ends, puts-length e)
+    omega (arith, length_field v, length_decimal v, e.ends, puts_length e)
 
 same_length : tie.Need-same-length
 same_length c = search rules

@@ -1,7 +1,7 @@
 -- `listing_table::put_end` meets its contract: the word, then the numbers.
 use native.Mathlib.Omega.{arith}
-use Rattle.listing.specs.Lines.{endLine}
-use Rattle.listing.proofs.PutLaws.{lays-puts}
+use Rattle.listing.specs.Lines.{end_line}
+use Rattle.listing.proofs.PutLaws.{lays_puts}
 use borrow.Author.Rules.{rules}
 use Rattle.listing_table.proofs.put_end.Statement.{statement}
 use Rattle.listing_table.proofs.put_end.Tie as tie
@@ -16,8 +16,8 @@ same_length : tie.Need-same-length
 same_length c = search rules
 
 returns : tie.Need-returns
-unfolding endLine
-returns c = lays-puts c.before.before.put-line.ensures (omega arith)
+unfolding end_line
+returns c = lays_puts c.before.before.put-line.ensures (omega arith)
 
 pub put-end-spec : {M : Type 1} → statement M
 put-end-spec = tie.close (tie.spec slice-aggregate-put-line put-line-requires same_length returns)

@@ -1,7 +1,7 @@
 -- `listing_table::put_header` meets its contract.
 use native.Mathlib.Omega.{arith}
-use Rattle.listing.specs.Lines.{headerLine}
-use Rattle.listing.proofs.PutLaws.{puts-within}
+use Rattle.listing.specs.Lines.{header_line}
+use Rattle.listing.proofs.PutLaws.{puts_within}
 use borrow.Author.Rules.{rules}
 use Rattle.listing_table.proofs.put_header.Statement.{statement}
 use Rattle.listing_table.proofs.put_header.Tie as tie
@@ -16,8 +16,8 @@ same_length : tie.Need-same-length
 same_length c = search rules
 
 returns : tie.Need-returns
-unfolding headerLine
-returns c = puts-within c.before.before.put-bytes.ensures (omega arith)
+unfolding header_line
+returns c = puts_within c.before.before.put-bytes.ensures (omega arith)
 
 pub put-header-spec : {M : Type 1} → statement M
 put-header-spec =

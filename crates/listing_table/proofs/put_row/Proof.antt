@@ -1,6 +1,6 @@
 -- `listing_table::put_row` meets its contract: the letter, then the numbers.
 use native.Mathlib.Omega.{arith}
-use Rattle.listing.proofs.LineLaws.{puts-row}
+use Rattle.listing.proofs.LineLaws.{puts_row}
 use borrow.Author.Rules.{rules}
 use Rattle.listing_table.proofs.put_row.Statement.{statement}
 use Rattle.listing_table.proofs.put_row.Tie as tie
@@ -45,7 +45,7 @@ returns : tie.Need-returns
 returns c =
     let line = c.before.before in let kind = line.before.before.before.before.before in
     let a = kind.before.before.before.before.args in
-    puts-row a.table.now a.index _ kind.letter-of.ensures line.put-line.ensures (omega arith)
+    puts_row a.table.now a.index _ kind.letter-of.ensures line.put-line.ensures (omega arith)
 
 pub put-row-spec : {M : Type 1} → statement M
 put-row-spec =

@@ -2,7 +2,7 @@
 use Rattle.listing.specs.Internal.{first_of}
 use lib.ListN.{drop}
 use native.Mathlib.Omega.{arith}
-use Rattle.listing.proofs.LineLaws.{length-row-at, row-most}
+use Rattle.listing.proofs.LineLaws.{length_row_at, row_most}
 use borrow.Author.Rules.{rules}
 use Rattle.listing_table.proofs.row_size.Statement.{statement}
 use Rattle.listing_table.proofs.row_size.Tie as tie
@@ -28,13 +28,13 @@ fields-size-requires c κs = search rules
 add-result : tie.Need-overflow-add-result
 add-result c =
     let a = c.before.before.before.before.args in
-    let n = length-row-at a.table.now a.index in
-    omega (arith, c.fields-size.ensures, n, row-most (first_of (drop a.index a.table.now)))
+    let n = length_row_at a.table.now a.index in
+    omega (arith, c.fields-size.ensures, n, row_most (first_of (drop a.index a.table.now)))
 
 returns : tie.Need-returns
 returns c =
     let a = c.before.before.before.before.args in
-    omega (arith, c.fields-size.ensures, length-row-at a.table.now a.index)
+    omega (arith, c.fields-size.ensures, length_row_at a.table.now a.index)
 
 pub row-size-spec : {M : Type 1} → statement M
 row-size-spec =

@@ -1,6 +1,6 @@
 -- `listing_table::write_rows` meets its contract: the text fits, or nothing is written.
 use native.Mathlib.Omega.{arith}
-use Rattle.listing.proofs.ListingLaws.{writes_short, writes-done}
+use Rattle.listing.proofs.ListingLaws.{writes_short, writes_done}
 use borrow.Author.Rules.{rules}
 use Rattle.listing_table.proofs.write_rows.Statement.{statement}
 use Rattle.listing_table.proofs.write_rows.Tie as tie
@@ -18,7 +18,7 @@ same_length : tie.Need-same-length
 same_length c = search rules
 
 returns-2 : tie.Need-returns-2
-returns-2 c = writes-done c.before.before.put_all_lem.ensures (omega arith)
+returns-2 c = writes_done c.before.before.put_all_lem.ensures (omega arith)
 
 pub write-rows-spec : {M : Type 1} → statement M
 write-rows-spec =

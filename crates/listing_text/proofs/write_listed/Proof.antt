@@ -2,7 +2,7 @@
 use Prim.Native.Nat.{◌≤◌}
 use lib.ListN.{length}
 use native.Mathlib.Omega.{arith}
-use Rattle.listing.proofs.ListingLaws.{closed-whole, closed-few, writes-listed}
+use Rattle.listing.proofs.ListingLaws.{closed_whole, closed_few, writes_listed}
 use borrow.Author.Rules.{rules}
 use Rattle.listing_text.proofs.write_listed.Statement.{statement}
 use Rattle.listing_text.proofs.write_listed.Tie as tie
@@ -28,8 +28,8 @@ cast-skipped c =
     let a = at_table.before.before.before.args in
     let h : length a.bytes.now ≤ 65536 = omega arith in
     let r = at_read.closed-reading in
-    let w = closed-whole a.d a.bytes.now h _ _ _ _ at-number.number_of_lem.ensures at_table.row-table.ensures r.ensures in
-    omega (arith, (closed-few a.d a.bytes.now h r.result _ w).1)
+    let w = closed_whole a.d a.bytes.now h _ _ _ _ at-number.number_of_lem.ensures at_table.row_table.ensures r.ensures in
+    omega (arith, (closed_few a.d a.bytes.now h r.result _ w).1)
 
 slice-aggregate-write-table : tie.Need-slice-aggregate-write-table
 slice-aggregate-write-table c = search rules
@@ -47,8 +47,8 @@ returns c =
     let a = at_table.before.before.before.args in
     let h : length a.bytes.now ≤ 65536 = omega arith in
     let r = at_read.closed-reading in
-    let w = closed-whole a.d a.bytes.now h _ _ _ _ at-number.number_of_lem.ensures at_table.row-table.ensures r.ensures in
-    writes-listed a.d a.bytes.now h _ _ _ _ _ w at-write.write-table.ensures
+    let w = closed_whole a.d a.bytes.now h _ _ _ _ at-number.number_of_lem.ensures at_table.row_table.ensures r.ensures in
+    writes_listed a.d a.bytes.now h _ _ _ _ _ w at-write.write-table.ensures
 
 pub write-listed-spec : {M : Type 1} → statement M
 write-listed-spec =

@@ -1,5 +1,5 @@
 -- One arm for each dialect.
-use Rattle.mmwave.proofs.RuleLaws.{objects-mmwave, objects-vital}
+use Rattle.mmwave.proofs.RuleLaws.{objects_mmwave, objects_vital}
 use borrow.Author.Rules.{rules}
 use Rattle.mmwave_dialects.proofs.objects_ok.Statement.{statement}
 use Rattle.mmwave_dialects.proofs.objects_ok.Tie as tie
@@ -11,10 +11,10 @@ enum-told-2 : tie.Need-enum-told-2
 enum-told-2 c = search rules
 
 returns : tie.Need-returns
-returns c = objects-mmwave c.enum_told.given.1 _
+returns c = objects_mmwave c.enum_told.given.1 _
 
 returns-2 : tie.Need-returns-2
-returns-2 c = objects-vital c.enum-told2.given.1 _
+returns-2 c = objects_vital c.enum-told2.given.1 _
 
 pub objects-ok-spec : {M : Type 1} → statement M
 objects-ok-spec = tie.close (tie.spec enum_told enum-told-2 returns returns-2)

@@ -1,9 +1,9 @@
 -- One arm for each dialect.
 use mathlib.Core.Path.{sym, ap}
 use Rattle.mmwave.specs.declared.PacketDialect.{PacketDialect}
-use Rattle.mmwave.specs.Dialects.{profileOf}
-use Rattle.mmwave.specs.MmWave.{mmWave}
-use Rattle.mmwave.specs.VitalSigns.{vitalSigns}
+use Rattle.mmwave.specs.Dialects.{profile_of}
+use Rattle.mmwave.specs.MmWave.{mm_wave}
+use Rattle.mmwave.specs.VitalSigns.{vital_signs}
 use borrow.Author.Rules.{rules}
 use Rattle.mmwave_dialects.proofs.padding_of.Statement.{statement}
 use Rattle.mmwave_dialects.proofs.padding_of.Tie as tie
@@ -15,12 +15,12 @@ enum-told-2 : tie.Need-enum-told-2
 enum-told-2 c = search rules
 
 returns : tie.Need-returns
-unfolding profileOf mmWave
-returns c = ap (λ (d : PacketDialect). (profileOf d).padding) (sym c.enum_told.given.1)
+unfolding profile_of mm_wave
+returns c = ap (λ (d : PacketDialect). (profile_of d).padding) (sym c.enum_told.given.1)
 
 returns-2 : tie.Need-returns-2
-unfolding profileOf vitalSigns
-returns-2 c = ap (λ (d : PacketDialect). (profileOf d).padding) (sym c.enum-told2.given.1)
+unfolding profile_of vital_signs
+returns-2 c = ap (λ (d : PacketDialect). (profile_of d).padding) (sym c.enum-told2.given.1)
 
 pub padding-of-spec : {M : Type 1} → statement M
 padding-of-spec = tie.close (tie.spec enum_told enum-told-2 returns returns-2)

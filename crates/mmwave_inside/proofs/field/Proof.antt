@@ -1,7 +1,7 @@
 -- The four bytes make the number.
 use mathlib.Core.Path.{◌∙◌}
 use native.Mathlib.Omega.{arith}
-use Rattle.form.proofs.PieceLaws.{little-there}
+use Rattle.form.proofs.PieceLaws.{little_there}
 use borrow.Author.Rules.{rules}
 use Rattle.mmwave_inside.proofs.field.Statement.{statement}
 use Rattle.mmwave_inside.proofs.field.Tie as tie
@@ -34,7 +34,7 @@ returns : tie.Need-returns
 returns c =
     let start = c.before.before.before.before.before.before in
     let a = start.args in
-    c.join.ensures ∙ little-there a.at a.s.now (omega arith)
+    c.join.ensures ∙ little_there a.at a.s.now (omega arith)
 
 pub field-spec : {M : Type 1} → statement M
 field-spec =

@@ -1,7 +1,7 @@
 -- The walk's judgement, or its number where all bytes are there.
 use native.Mathlib.Omega.{arith}
 use Rattle.form.proofs.PieceLaws.{judges}
-use Rattle.mmwave.proofs.Within.{settled-whole, settled-bad}
+use Rattle.mmwave.proofs.Within.{settled_whole, settled_bad}
 use borrow.Author.Rules.{rules}
 use Rattle.mmwave_inside.proofs.judge_records.Statement.{statement}
 use Rattle.mmwave_inside.proofs.judge_records.Tie as tie
@@ -30,10 +30,10 @@ kind-of-requires c κs = search rules
 returns-2 : tie.Need-returns-2
 returns-2 c =
     let i2 = c.before in
-    judges (settled-whole _ _ _ _ c.kind-of.ensures i2.before.walk_Inside.ensures i2.if2.true (omega arith))
+    judges (settled_whole _ _ _ _ c.kind-of.ensures i2.before.walk_Inside.ensures i2.if2.true (omega arith))
 
 returns-3 : tie.Need-returns-3
-returns-3 c = judges (settled-bad _ _ _ c.before.walk_Inside.ensures c.if2.false)
+returns-3 c = judges (settled_bad _ _ _ c.before.walk_Inside.ensures c.if2.false)
 
 pub judge-records-spec : {M : Type 1} → statement M
 judge-records-spec =

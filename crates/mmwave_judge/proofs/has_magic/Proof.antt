@@ -2,7 +2,7 @@
 use mathlib.Core.Bool.{false}
 use mathlib.Core.Path.{refl}
 use Rattle.digits.proofs.Choices.{both_ways}
-use Rattle.mmwave.proofs.Within.{magic-met, magic-fours}
+use Rattle.mmwave.proofs.Within.{magic_met, magic_fours}
 use borrow.Author.Rules.{rules}
 use Rattle.mmwave_judge.proofs.has_magic.Statement.{statement}
 use Rattle.mmwave_judge.proofs.has_magic.Tie as tie
@@ -41,15 +41,15 @@ same-four-requires-2 c κs = search rules
 returns : tie.Need-returns
 returns c = let met = c.before.before.before.before.before in let first = met.before in
     let start = first.before.before.before.before.before.before in let bs = start.args.s.now in (
-      λ e. magic-met bs start.requires (first.same-four.ensures.0 met.if1.true) (c.same-four2.ensures.0 e),
-      λ e m. c.same-four2.ensures.1 e (magic-fours bs start.requires m).1,
+      λ e. magic_met bs start.requires (first.same-four.ensures.0 met.if1.true) (c.same-four2.ensures.0 e),
+      λ e m. c.same-four2.ensures.1 e (magic_fours bs start.requires m).1,
     )
 
 -- they are not
 returns-2 : tie.Need-returns-2
 returns-2 c = let first = c.before in let start = first.before.before.before.before.before.before in (
   λ e. both_ways false e refl,
-  λ e m. first.same-four.ensures.1 c.if1.false (magic-fours start.args.s.now start.requires m).0,
+  λ e m. first.same-four.ensures.1 c.if1.false (magic_fours start.args.s.now start.requires m).0,
 )
 
 pub has-magic-spec : {M : Type 1} → statement M

@@ -1,8 +1,8 @@
 -- The numbers at the header's offsets, tested in byte order.
 use mathlib.Core.Path.{sym, ◌∙◌}
-use Rattle.mmwave.specs.Dialects.{profileOf}
+use Rattle.mmwave.specs.Dialects.{profile_of}
 use Rattle.mmwave.proofs.RecordLaws.{count_room}
-use Rattle.mmwave.proofs.Within.{no-magic, header-total, header-objects, header-count, header-subframe, header-passed}
+use Rattle.mmwave.proofs.Within.{no_magic, header_total, header_objects, header_count, header_subframe, header_passed}
 use borrow.Author.Rules.{rules}
 use Rattle.mmwave_judge.proofs.judge_header.Statement.{statement}
 use Rattle.mmwave_judge.proofs.judge_header.Tie as tie
@@ -45,7 +45,7 @@ returns c =
     let f3 = co.before in let i3 = f3.before in let ob = i3.before in let f2 = ob.before in let i2 = f2.before in
     let to = i2.before in let f = to.before in let i1 = f.before in let h = i1.before in let start = h.before.before in
     c.behind-header.ensures
-    ∙ header-passed (profileOf start.args.d) start.args.s.now start.requires (h.has-magic.ensures.0 i1.if1.true)
+    ∙ header_passed (profile_of start.args.d) start.args.s.now start.requires (h.has-magic.ensures.0 i1.if1.true)
     f.number.ensures to.total-ok.ensures i2.if2.true
     f2.number2.ensures ob.objects-ok.ensures i3.if3.true
     f3.number3.ensures co.count-ok.ensures i4.if4.true
@@ -56,7 +56,7 @@ returns-2 c =
     let su = c.before in let f4 = su.before in let i4 = f4.before in let co = i4.before in let f3 = co.before in
     let i3 = f3.before in let ob = i3.before in let f2 = ob.before in let i2 = f2.before in let to = i2.before in
     let f = to.before in let i1 = f.before in let h = i1.before in let start = h.before.before in
-    header-subframe (profileOf start.args.d) start.args.s.now start.requires (h.has-magic.ensures.0 i1.if1.true)
+    header_subframe (profile_of start.args.d) start.args.s.now start.requires (h.has-magic.ensures.0 i1.if1.true)
     f.number.ensures to.total-ok.ensures i2.if2.true
     f2.number2.ensures ob.objects-ok.ensures i3.if3.true
     f3.number3.ensures co.count-ok.ensures i4.if4.true
@@ -67,7 +67,7 @@ returns-3 c =
     let co = c.before in let f3 = co.before in let i3 = f3.before in let ob = i3.before in let f2 = ob.before in
     let i2 = f2.before in let to = i2.before in let f = to.before in let i1 = f.before in let h = i1.before in
     let start = h.before.before in
-    header-count (profileOf start.args.d) start.args.s.now start.requires (h.has-magic.ensures.0 i1.if1.true)
+    header_count (profile_of start.args.d) start.args.s.now start.requires (h.has-magic.ensures.0 i1.if1.true)
     f.number.ensures to.total-ok.ensures i2.if2.true
     f2.number2.ensures ob.objects-ok.ensures i3.if3.true
     f3.number3.ensures co.count-ok.ensures c.if4.false
@@ -76,20 +76,20 @@ returns-4 : tie.Need-returns-4
 returns-4 c =
     let ob = c.before in let f2 = ob.before in let i2 = f2.before in let to = i2.before in let f = to.before in
     let i1 = f.before in let h = i1.before in let start = h.before.before in
-    header-objects (profileOf start.args.d) start.args.s.now start.requires (h.has-magic.ensures.0 i1.if1.true)
+    header_objects (profile_of start.args.d) start.args.s.now start.requires (h.has-magic.ensures.0 i1.if1.true)
     f.number.ensures to.total-ok.ensures i2.if2.true
     f2.number2.ensures ob.objects-ok.ensures c.if3.false
 
 returns-5 : tie.Need-returns-5
 returns-5 c =
     let to = c.before in let f = to.before in let i1 = f.before in let h = i1.before in let start = h.before.before in
-    header-total (profileOf start.args.d) start.args.s.now start.requires (h.has-magic.ensures.0 i1.if1.true)
+    header_total (profile_of start.args.d) start.args.s.now start.requires (h.has-magic.ensures.0 i1.if1.true)
     f.number.ensures to.total-ok.ensures c.if2.false
 
 returns-6 : tie.Need-returns-6
 returns-6 c =
     let h = c.before in let start = h.before.before in
-    no-magic (profileOf start.args.d) start.args.s.now start.requires (h.has-magic.ensures.1 c.if1.false)
+    no_magic (profile_of start.args.d) start.args.s.now start.requires (h.has-magic.ensures.1 c.if1.false)
 
 pub judge-header-spec : {M : Type 1} → statement M
 judge-header-spec =

@@ -1,6 +1,6 @@
 -- Numbers of four bytes are equal exactly if the bytes are.
 use native.Mathlib.Omega.{arith}
-use Rattle.mmwave.proofs.Within.{same_bytes, other-bytes}
+use Rattle.mmwave.proofs.Within.{same_bytes, other_bytes}
 use borrow.Author.Rules.{rules}
 use Rattle.mmwave_judge.proofs.same_four.Statement.{statement}
 use Rattle.mmwave_judge.proofs.same_four.Tie as tie
@@ -17,7 +17,7 @@ returns c =
     let a = start.args in (
       same_bytes _ _ _ _ _ _ _ _ j.join.ensures c.join2.ensures (omega arith) (omega arith) (omega arith) (omega arith)
           (omega arith) (omega arith) (omega arith) (omega arith),
-      other-bytes _ _ _ _ _ _ _ _ j.join.ensures c.join2.ensures,
+      other_bytes _ _ _ _ _ _ _ _ j.join.ensures c.join2.ensures,
     )
 
 pub same-four-spec : {M : Type 1} → statement M

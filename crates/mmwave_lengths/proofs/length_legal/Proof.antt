@@ -1,5 +1,5 @@
 -- One arm for each rule.
-use Rattle.mmwave.proofs.RuleLaws.{legal-never, legal-exact, legal-multiple, legal-free}
+use Rattle.mmwave.proofs.RuleLaws.{legal_never, legal_exact, legal_multiple, legal_free}
 use borrow.Author.Rules.{rules}
 use Rattle.mmwave_lengths.proofs.length_legal.Statement.{statement}
 use Rattle.mmwave_lengths.proofs.length_legal.Tie as tie
@@ -20,16 +20,16 @@ enum-told-2 : tie.Need-enum-told-2
 enum-told-2 c = search rules
 
 returns : tie.Need-returns
-returns c = legal-never _ c.enum_told.given.1
+returns c = legal_never _ c.enum_told.given.1
 
 returns-2 : tie.Need-returns-2
-returns-2 c = legal-exact _ _ c.before.rule.given.1
+returns-2 c = legal_exact _ _ c.before.rule.given.1
 
 returns-3 : tie.Need-returns-3
-returns-3 c = legal-multiple _ _ c.before.before.rule2.given.1 c.beyond.ensures
+returns-3 c = legal_multiple _ _ c.before.before.rule2.given.1 c.beyond.ensures
 
 returns-4 : tie.Need-returns-4
-returns-4 c = legal-free _ c.enum-told2.given.1
+returns-4 c = legal_free _ c.enum-told2.given.1
 
 pub length-legal-spec : {M : Type 1} → statement M
 length-legal-spec =

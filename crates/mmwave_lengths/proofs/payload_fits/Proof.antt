@@ -1,5 +1,5 @@
 -- One test after another, as the definition has them.
-use Rattle.mmwave.proofs.RuleLaws.{fits-over, fits_more, fits_last}
+use Rattle.mmwave.proofs.RuleLaws.{fits_over, fits_more, fits_last}
 use borrow.Author.Rules.{rules}
 use Rattle.mmwave_lengths.proofs.payload_fits.Statement.{statement}
 use Rattle.mmwave_lengths.proofs.payload_fits.Tie as tie
@@ -8,7 +8,7 @@ returns : tie.Need-returns
 returns c = fits_more _ _ _ _ c.if1.true
 
 returns-2 : tie.Need-returns-2
-returns-2 c = fits-over _ _ _ _ c.if2.true
+returns-2 c = fits_over _ _ _ _ c.if2.true
 
 padding-of-requires : tie.Need-padding-of-requires
 padding-of-requires c κs = search rules

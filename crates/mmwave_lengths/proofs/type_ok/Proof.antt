@@ -1,5 +1,5 @@
 -- One arm for each rule.
-use Rattle.mmwave.proofs.RuleLaws.{possible-never, possible-exact, possible-multiple, possible-free}
+use Rattle.mmwave.proofs.RuleLaws.{possible_never, possible_exact, possible_multiple, possible_free}
 use borrow.Author.Rules.{rules}
 use Rattle.mmwave_lengths.proofs.type_ok.Statement.{statement}
 use Rattle.mmwave_lengths.proofs.type_ok.Tie as tie
@@ -23,16 +23,16 @@ enum-told-2 : tie.Need-enum-told-2
 enum-told-2 c = search rules
 
 returns : tie.Need-returns
-returns c = possible-never _ _ _ c.enum_told.given.1
+returns c = possible_never _ _ _ c.enum_told.given.1
 
 returns-2 : tie.Need-returns-2
-returns-2 c = possible-exact _ _ _ _ c.before.before.rule.given.1 c.exact-fits.ensures
+returns-2 c = possible_exact _ _ _ _ c.before.before.rule.given.1 c.exact-fits.ensures
 
 returns-3 : tie.Need-returns-3
-returns-3 c = possible-multiple _ _ _ _ c.before.before.rule2.given.1 c.some-multiple-fits.ensures
+returns-3 c = possible_multiple _ _ _ _ c.before.before.rule2.given.1 c.some-multiple-fits.ensures
 
 returns-4 : tie.Need-returns-4
-returns-4 c = possible-free _ _ _ c.enum-told2.given.1
+returns-4 c = possible_free _ _ _ c.enum-told2.given.1
 
 pub type-ok-spec : {M : Type 1} → statement M
 type-ok-spec =

@@ -1,6 +1,6 @@
 -- Each field goes on from the end of the one before; a legal record count leaves room for the headers.
 use borrow.Author.Rules.{rules}
-use Rattle.mmwave.proofs.RecordLaws.{count-leaves}
+use Rattle.mmwave.proofs.RecordLaws.{count_leaves}
 use mathlib.Core.Path.{sym, ◌∙◌}
 use Rattle.form.proofs.PieceLaws.{go_on, halt}
 use Rattle.mmwave.specs.Packet.{counted}
@@ -72,7 +72,7 @@ add-used c = search rules
 sub-room : tie.Need-overflow-sub-room
 sub-room c =
     let m = c.before.before.before.before.before in let a = m.before.before in
-    count-leaves _ _ _ _ a.checked-at2.ensures m.m.given.1
+    count_leaves _ _ _ _ a.checked-at2.ensures m.m.given.1
 
 cast-walk : tie.Need-overflow-cast-walk
 cast-walk c = search rules

@@ -1,6 +1,6 @@
 -- One arm for each field.
 use mathlib.Core.Path.{sym, ap}
-use Rattle.mmwave_pieces.specs.Internal.{reasonOf}
+use Rattle.mmwave_pieces.specs.Internal.{reason_of}
 use borrow.Author.Rules.{rules}
 use Rattle.mmwave_pieces.proofs.reason_of.Statement.{statement}
 use Rattle.mmwave_pieces.proofs.reason_of.Tie as tie
@@ -18,16 +18,16 @@ enum-told-4 : tie.Need-enum-told-4
 enum-told-4 c = search rules
 
 returns : tie.Need-returns
-returns c = ap reasonOf (sym c.enum_told.given.1)
+returns c = ap reason_of (sym c.enum_told.given.1)
 
 returns-2 : tie.Need-returns-2
-returns-2 c = ap reasonOf (sym c.enum-told2.given.1)
+returns-2 c = ap reason_of (sym c.enum-told2.given.1)
 
 returns-3 : tie.Need-returns-3
-returns-3 c = ap reasonOf (sym c.enum-told3.given.1)
+returns-3 c = ap reason_of (sym c.enum-told3.given.1)
 
 returns-4 : tie.Need-returns-4
-returns-4 c = ap reasonOf (sym c.enum-told4.given.1)
+returns-4 c = ap reason_of (sym c.enum-told4.given.1)
 
 pub reason-of-spec : {M : Type 1} → statement M
 reason-of-spec =

@@ -1,7 +1,7 @@
 -- Free bytes, and then the kind.
 use Rattle.form.proofs.PieceLaws.{halt}
 use Rattle.mmwave.specs.Packet.{last}
-use Rattle.mmwave.proofs.RecordLaws.{last-whole}
+use Rattle.mmwave.proofs.RecordLaws.{last_whole}
 use borrow.Author.Rules.{rules}
 use Rattle.mmwave_records.proofs.padding_at.Statement.{statement}
 use Rattle.mmwave_records.proofs.padding_at.Tie as tie
@@ -22,7 +22,7 @@ kind-of-requires c κs = search rules
 returns-2 : tie.Need-returns-2
 returns-2 c =
     let a = c.before.before in let s = a.before.before in
-    last-whole _ _ _ _ c.kind-of.ensures s.skip.ensures.answers a.a.given.1
+    last_whole _ _ _ _ c.kind-of.ensures s.skip.ensures.answers a.a.given.1
 
 pub padding-at-spec : {M : Type 1} → statement M
 padding-at-spec =

@@ -1,6 +1,6 @@
 -- The free field and its test, and the payload from its end on.
 use mathlib.Core.Path.{refl, sym, ◌∙◌}
-use Rattle.form.proofs.PieceLaws.{unread, taken, refused, go_on, halt, stop, whole-there}
+use Rattle.form.proofs.PieceLaws.{unread, taken, refused, go_on, halt, stop, whole_there}
 use Rattle.form.specs.Pieces.{always}
 use Rattle.mmwave.specs.Packet.{payload}
 use borrow.Author.Rules.{rules}
@@ -44,7 +44,7 @@ returns-3 c =
     let a = l.before.before in let n = a.before.before in
     let passes = sym l.length-ok.ensures ∙ i1.if1.true in
     let length_taken = taken (always 24) _ _ _ n.number.ensures.answers a.a.given.1 passes in
-    whole-there _ _ _
+    whole_there _ _ _
     ∙ sym (go_on _ _ _ _ s.skip.ensures.answers b.b.given.1)
     ∙ sym (go_on _ _ _ _ length_taken refl)
 

@@ -1,6 +1,6 @@
 -- The Horner sum of the code is the definition, unfolded.
 use native.Mathlib.Omega.{arith}
-use Rattle.digits.specs.LittleEndian.{fromLittle}
+use Rattle.digits.specs.LittleEndian.{from_little}
 use borrow.Author.Rules.{rules}
 use Rattle.numbers.proofs.join.Statement.{statement}
 use Rattle.numbers.proofs.join.Tie as tie
@@ -24,7 +24,7 @@ add-result : tie.Need-overflow-add-result
 add-result c = search rules
 
 returns : tie.Need-returns
-unfolding fromLittle
+unfolding from_little
 returns c = omega arith
 
 pub join-spec : {M : Type 1} → statement M

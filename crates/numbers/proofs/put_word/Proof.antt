@@ -2,19 +2,19 @@
 use mathlib.Core.Path.{sym}
 use native.Mathlib.Omega.{arith}
 use lib.ListN.{length-set}
-use Rattle.digits.proofs.StoreLaws.{word-unfit, four-stores}
+use Rattle.digits.proofs.StoreLaws.{word_unfit, four_stores}
 use borrow.Author.Rules.{rules}
 use Rattle.numbers.proofs.put_word.Statement.{statement}
 use Rattle.numbers.proofs.put_word.Tie as tie
 
 returns : tie.Need-returns
-returns c = let a = c.before.args in sym (word-unfit a.out.now a.at a.v (omega arith))
+returns c = let a = c.before.args in sym (word_unfit a.out.now a.at a.v (omega arith))
 
 sub-if2 : tie.Need-overflow-sub-if2
 sub-if2 c = search rules
 
 returns-2 : tie.Need-returns-2
-returns-2 c = let a = c.before.before.args in sym (word-unfit a.out.now a.at a.v (omega arith))
+returns-2 c = let a = c.before.before.args in sym (word_unfit a.out.now a.at a.v (omega arith))
 
 cast-out : tie.Need-overflow-cast-out
 cast-out c = search rules
@@ -53,7 +53,7 @@ same_length : tie.Need-same-length
 same_length c = search rules
 
 returns-3 : tie.Need-returns-3
-returns-3 c = let a = c.before.before.args in four-stores a.out.now a.at a.v (omega arith)
+returns-3 c = let a = c.before.before.args in four_stores a.out.now a.at a.v (omega arith)
 
 pub put-word-spec : {M : Type 1} → statement M
 put-word-spec =

@@ -2,7 +2,7 @@
 use Prim.Native.Nat.{◌≤◌, ◌-◌}
 use lib.ListN.{length}
 use borrow.Author.Rules.{rules}
-use Rattle.case_input.proofs.CaseLaws.{end-within}
+use Rattle.case_input.proofs.CaseLaws.{end_within}
 use Rattle.packet_cases.proofs.read_all.Statement.{statement}
 use Rattle.packet_cases.proofs.read_all.Tie as tie
 
@@ -16,7 +16,7 @@ case-end-requires : tie.Need-case-end-requires invariant-loop decreases-loop
 case-end-requires c κs = tt
 
 loop-holds : tie.Need-loop-init invariant-loop decreases-loop
-loop-holds c = end-within _ _ _ c.case-end.ensures
+loop-holds c = end_within _ _ _ c.case-end.ensures
 
 case-at-requires : tie.Need-case-at-requires invariant-loop decreases-loop
 case-at-requires c κs = tt
@@ -31,7 +31,7 @@ loop-less : tie.Need-loop-smaller invariant-loop decreases-loop
 loop-less c = search rules
 
 loop-again : tie.Need-loop-preserved invariant-loop decreases-loop
-loop-again c = end-within _ _ _ c.case-end2.ensures
+loop-again c = end_within _ _ _ c.case-end2.ensures
 
 returns : tie.Need-returns invariant-loop decreases-loop
 returns c = tt

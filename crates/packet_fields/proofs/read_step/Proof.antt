@@ -1,5 +1,5 @@
 -- `packet_fields::read_step` meets its contract: 6 where no record starts there, else the record there.
-use Rattle.packet.proofs.FieldLaws.{step-nowhere, step-there, step_small}
+use Rattle.packet.proofs.FieldLaws.{step_nowhere, step_there, step_small}
 use borrow.Author.Rules.{rules}
 use Rattle.packet_fields.proofs.read_step.Statement.{statement}
 use Rattle.packet_fields.proofs.read_step.Tie as tie
@@ -18,7 +18,7 @@ step-from-requires c κs =
 returns : tie.Need-returns
 returns c =
     let w = c.before.before in
-    step-there _ _ w.before.word_at.ensures w.starts.ensures c.before.if1.true c.step_from.ensures
+    step_there _ _ w.before.word_at.ensures w.starts.ensures c.before.if1.true c.step_from.ensures
 
 no-step-requires : tie.Need-no-step-requires
 no-step-requires c κs = search rules
@@ -26,7 +26,7 @@ no-step-requires c κs = search rules
 returns-2 : tie.Need-returns-2
 returns-2 c =
     let w = c.before.before in
-    step-nowhere _ _ w.before.word_at.ensures w.starts.ensures c.before.if1.false c.no_step.ensures
+    step_nowhere _ _ w.before.word_at.ensures w.starts.ensures c.before.if1.false c.no_step.ensures
 
 pub read-step-spec : {M : Type 1} → statement M
 read-step-spec =

@@ -1,5 +1,5 @@
 -- `packet_fields::record` meets its contract: 5, or the record that is read from a packet of the kind.
-use Rattle.packet.proofs.FieldLaws.{other-named, not-whole, other-kind, other_length, one-packet, walks, record-refused, record-read}
+use Rattle.packet.proofs.FieldLaws.{other_named, not_whole, other_kind, other_length, one_packet, walks, record_refused, record_read_lem}
 use borrow.Author.Rules.{rules}
 use Rattle.packet_fields.proofs.record.Statement.{statement}
 use Rattle.packet_fields.proofs.record.Tie as tie
@@ -19,7 +19,7 @@ no-record-requires c κs = search rules
 returns : tie.Need-returns
 returns c =
     let n = c.before.before.before in
-    record-refused _ _ _ (other-named _ _ n.dialect-named.ensures c.before.enum_told.given.1) c.no_record.ensures
+    record_refused _ _ _ (other_named _ _ n.dialect-named.ensures c.before.enum_told.given.1) c.no_record.ensures
 
 judge-requires : tie.Need-judge-requires
 judge-requires c κs = search rules
@@ -33,7 +33,7 @@ no-record-requires-2 c κs = search rules
 returns-2 : tie.Need-returns-2
 returns-2 c =
     let j = c.before.before in let d = j.before.before in let n = d.before.before in
-    record-refused _ _ _ (not-whole _ _ n.dialect-named.ensures d.d.given.1 j.judge.ensures.answers
+    record_refused _ _ _ (not_whole _ _ n.dialect-named.ensures d.d.given.1 j.judge.ensures.answers
     c.before.match2.keys2) c.no-record2.ensures
 
 no-record-requires-3 : tie.Need-no-record-requires-3
@@ -42,9 +42,9 @@ no-record-requires-3 c κs = search rules
 returns-3 : tie.Need-returns-3
 returns-3 c =
     let w = c.before.before.before in let j = w.before.before in let d = j.before.before in let n = d.before.before in
-    let o = other-kind _ _ n.dialect-named.ensures d.d.given.1 j.judge.ensures.answers w.found.given.1
+    let o = other_kind _ _ n.dialect-named.ensures d.d.given.1 j.judge.ensures.answers w.found.given.1
     c.before.if1.true in
-    record-refused _ _ _ o c.no-record3.ensures
+    record_refused _ _ _ o c.no-record3.ensures
 
 no-record-requires-4 : tie.Need-no-record-requires-4
 no-record-requires-4 c κs = search rules
@@ -55,21 +55,21 @@ returns-4 c =
     let o = other_length _ _ n.dialect-named.ensures d.d.given.1 j.judge.ensures.answers w.found.given.1
     c.before.before.if1.false
     c.before.if2.true in
-    record-refused _ _ _ o c.no-record4.ensures
+    record_refused _ _ _ o c.no-record4.ensures
 
 read-record-requires : tie.Need-read-record-requires
 read-record-requires c κs =
     let w = c.before.before.before in let j = w.before.before in let d = j.before.before in let n = d.before.before in
-    walks _ _ (one-packet _ _ n.dialect-named.ensures d.d.given.1 j.judge.ensures.answers w.found.given.1
+    walks _ _ (one_packet _ _ n.dialect-named.ensures d.d.given.1 j.judge.ensures.answers w.found.given.1
     c.before.if1.false c.if2.false)
 
 returns-5 : tie.Need-returns-5
 returns-5 c =
     let w = c.before.before.before.before in let j = w.before.before in let d = j.before.before in let n = d.before.before in
-    let o = one-packet _ _ n.dialect-named.ensures d.d.given.1 j.judge.ensures.answers w.found.given.1
+    let o = one_packet _ _ n.dialect-named.ensures d.d.given.1 j.judge.ensures.answers w.found.given.1
     c.before.before.if1.false
     c.before.if2.false in
-    record-read _ _ _ o c.read-record.ensures
+    record_read_lem _ _ _ o c.read-record.ensures
 
 pub record-spec : {M : Type 1} → statement M
 record-spec =

@@ -1,5 +1,5 @@
 -- `packet_fields::header` meets its contract: the eight words of one whole packet of the kind, or zeros with 5.
-use Rattle.packet.proofs.FieldLaws.{other-named, not-whole, other-kind, other_length, one-packet, header_refused, header_read}
+use Rattle.packet.proofs.FieldLaws.{other_named, not_whole, other_kind, other_length, one_packet, header_refused, header_read}
 use borrow.Author.Rules.{rules}
 use Rattle.packet_header.proofs.header.Statement.{statement}
 use Rattle.packet_header.proofs.header.Tie as tie
@@ -19,7 +19,7 @@ no-header-requires c κs = search rules
 returns : tie.Need-returns
 returns c =
     let n = c.before.before.before in
-    header_refused _ _ (other-named _ _ n.dialect-named.ensures c.before.enum_told.given.1) c.no_Header.ensures
+    header_refused _ _ (other_named _ _ n.dialect-named.ensures c.before.enum_told.given.1) c.no_Header.ensures
 
 judge-requires : tie.Need-judge-requires
 judge-requires c κs = search rules
@@ -33,7 +33,7 @@ no-header-requires-2 c κs = search rules
 returns-2 : tie.Need-returns-2
 returns-2 c =
     let j = c.before.before in let d = j.before.before in let n = d.before.before in
-    header_refused _ _ (not-whole _ _ n.dialect-named.ensures d.d.given.1 j.judge.ensures.answers c.before.match2.keys2)
+    header_refused _ _ (not_whole _ _ n.dialect-named.ensures d.d.given.1 j.judge.ensures.answers c.before.match2.keys2)
     c.no-header2.ensures
 
 no-header-requires-3 : tie.Need-no-header-requires-3
@@ -42,7 +42,7 @@ no-header-requires-3 c κs = search rules
 returns-3 : tie.Need-returns-3
 returns-3 c =
     let w = c.before.before.before in let j = w.before.before in let d = j.before.before in let n = d.before.before in
-    let o = other-kind _ _ n.dialect-named.ensures d.d.given.1 j.judge.ensures.answers w.found.given.1
+    let o = other_kind _ _ n.dialect-named.ensures d.d.given.1 j.judge.ensures.answers w.found.given.1
     c.before.if1.true in
     header_refused _ _ o c.no-header3.ensures
 
@@ -63,7 +63,7 @@ read-header-requires c κs = search rules
 returns-5 : tie.Need-returns-5
 returns-5 c =
     let w = c.before.before.before.before in let j = w.before.before in let d = j.before.before in let n = d.before.before in
-    let o = one-packet _ _ n.dialect-named.ensures d.d.given.1 j.judge.ensures.answers w.found.given.1
+    let o = one_packet _ _ n.dialect-named.ensures d.d.given.1 j.judge.ensures.answers w.found.given.1
     c.before.before.if1.false
     c.before.if2.false in
     header_read _ _ o c.read-header.ensures

@@ -1,13 +1,13 @@
 -- `packet_fields::payload_length` meets its contract: behind the bytes there is no word.
 use mathlib.Core.Path.{sym}
 use native.Mathlib.Omega.{arith}
-use Rattle.digits.proofs.LittleEndianLaws.{word-missing}
+use Rattle.digits.proofs.LittleEndianLaws.{word_missing}
 use borrow.Author.Rules.{rules}
 use Rattle.packet_header.proofs.payload_length.Statement.{statement}
 use Rattle.packet_header.proofs.payload_length.Tie as tie
 
 returns : tie.Need-returns
-returns c = let a = c.before.before.args in sym (word-missing a.s.now _ (omega arith))
+returns c = let a = c.before.before.args in sym (word_missing a.s.now _ (omega arith))
 
 add-word-at : tie.Need-overflow-add-word-at
 add-word-at c = search rules

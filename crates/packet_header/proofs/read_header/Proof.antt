@@ -1,5 +1,5 @@
 -- `packet_fields::read_header` meets its contract: the eight words at their offsets.
-use Rattle.packet.proofs.FieldLaws.{header-words}
+use Rattle.packet.proofs.FieldLaws.{header_words}
 use borrow.Author.Rules.{rules}
 use Rattle.packet_header.proofs.read_header.Statement.{statement}
 use Rattle.packet_header.proofs.read_header.Tie as tie
@@ -31,7 +31,7 @@ word-at-requires-8 c κs = search rules
 returns : tie.Need-returns
 returns c =
     let w = c.before.before.before.before in
-    header-words _ w.before.before.before.word_at.ensures w.before.before.word-at2.ensures w.before.word-at3.ensures
+    header_words _ w.before.before.before.word_at.ensures w.before.before.word-at2.ensures w.before.word-at3.ensures
     w.word-at4.ensures c.before.before.before.word-at5.ensures c.before.before.word-at6.ensures
     c.before.word-at7.ensures c.word-at8.ensures
 

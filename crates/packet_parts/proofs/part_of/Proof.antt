@@ -1,6 +1,6 @@
 -- `packet_parts::part_of` meets its contract: the two tests say that the part lies within the slice.
 use native.Mathlib.Omega.{arith}
-use Rattle.packet_parts.proofs.PartLaws.{part_none, part-there}
+use Rattle.packet_parts.proofs.PartLaws.{part_none, part_there}
 use borrow.Author.Rules.{rules}
 use Rattle.packet_parts.proofs.part_of.Statement.{statement}
 use Rattle.packet_parts.proofs.part_of.Tie as tie
@@ -37,7 +37,7 @@ part-result-end c = search rules
 returns-3 : tie.Need-returns-3
 returns-3 c =
     let a = c.before.before.before.args in
-    part-there a.bytes.now a.shown (omega (arith, c.before.before.if1.false, c.before.if2.false))
+    part_there a.bytes.now a.shown (omega (arith, c.before.before.if1.false, c.before.if2.false))
 
 pub part-of-spec : {M : Type 1} → statement M
 part-of-spec =

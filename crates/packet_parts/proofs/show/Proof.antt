@@ -50,10 +50,10 @@ use Rattle.packet.specs.Fields.{RecordShown}
 use Rattle.packet.specs.declared.PacketRecord.{PacketRecord}
 use Rattle.packet.specs.contracts.PacketRecord as S
 use Rattle.packet.proofs.PacketRecord.TheLaws as S'
-use Rattle.packet_parts.specs.Internal.{partOf}
+use Rattle.packet_parts.specs.Internal.{part_of}
 use Rattle.packet_reader.specs.declared.PacketReader.{PacketReader}
 use Rattle.packet_parts.specs.declared.RecordPart.{RecordPart}
-use Rattle.packet_parts.proofs.PartLaws.{part-is-payload}
+use Rattle.packet_parts.proofs.PartLaws.{part_is_payload}
 use Rattle.packet_reader.specs.contracts.PacketReader as T
 use Rattle.packet_reader.proofs.PacketReader.TheLaws as T'
 use Rattle.packet_parts.specs.contracts.RecordPart as P
@@ -115,7 +115,7 @@ module _ {M : Type 1} {𝓤 : Ura M} (𝓛 : Logic 𝓤) (mem : Memory → SProp
   Shown r = RecordShown d.kind d.bytes.now n r
 
   abbrev IsPart : PacketRecord → Bor (List ℕ) → Type 0
-  IsPart r y = y.now ≡ partOf d.bytes.now r
+  IsPart r y = y.now ≡ part_of d.bytes.now r
 
   abbrev at : Vals show.signature (κ, tt)
   at = (mach ∷ [], (vint w64 n ∷ [], tt))
@@ -230,9 +230,9 @@ module _ {M : Type 1} {𝓤 : Ura M} (𝓛 : Logic 𝓤) (mem : Memory → SProp
       suffices ! _ (ends_at 𝓛 show.ended stayed (show.clauses 𝓛 mem run) (((κ, tt), (q, tt), tt, (d, (n, tt)), at), tt)
       (P'.lowered (made r y)) (made r y) (tt, (tt, tt)) (tt, (tt, tt))) $
       says ! (record {
-        payload = f ∙ part-is-payload e;
+        payload = f ∙ part_is_payload e;
         refused = ap (λ (x : PacketRecord). x.refusal) e.answers;
-        type-is = ap (λ (x : PacketRecord). x.tag) e.answers;
+        type_is = ap (λ (x : PacketRecord). x.tag) e.answers;
       }) $
       move ! (1 ∷ []) $ frame ! $ nothing ! $ owned ! usize (Is usize) (uint_Makes 𝓛 w64) n _ (refl, nok) $ fjoin ! $
       move ! (2 ∷ 0 ∷ []) $ fjoin ! $ frame ! $
@@ -242,17 +242,17 @@ module _ {M : Type 1} {𝓤 : Ura M} (𝓛 : Logic 𝓤) (mem : Memory → SProp
       move ! (1 ∷ 0 ∷ []) $ fjoin ! $ by ! (own_shut 𝓛 (P.the_type α) (P'.the_laws α) (y, (r.refusal, (r.tag, tt))))
 
   -- the same at the machine value that `part_of` returned
-  exits-at : (r : PacketRecord) (y : Bor (List ℕ)) (w : Val) → w ≡ vp y → WT (S'.lowered r) → Shown r → IsPart r y
+  exits_at : (r : PacketRecord) (y : Bor (List ℕ)) (w : Val) → w ≡ vp y → WT (S'.lowered r) → Shown r → IsPart r y
       → ent 𝓤 (⋆ 𝓛 (‵ (R.own_val y (w ∷ [])) ∷ token ∷ ‵ Own ∷ [])) (Post (result r w))
-  exits-at r y w h ok e f =
+  exits_at r y w h ok e f =
       subst (λ (z : Val). ent 𝓤 (⋆ 𝓛 (‵ (R.own_val y (z ∷ [])) ∷ token ∷ ‵ Own ∷ [])) (Post (result r z))) (sym h) (exits r y ok e f)
 
   typed_at : (r : PacketRecord) (y : Bor (List ℕ)) (w : Val) → w ≡ vp y → Holds (has_ty (P'.mir (named 0)) (result r w))
   typed_at r y w h = subst (λ (z : Val). Holds (has_ty (P'.mir (named 0)) (result r z))) (sym h) tt
 
   -- the part's machine value
-  part-value : (y : Bor (List ℕ)) (w : Val) → Is R y (w ∷ []) → w ≡ vp y
-  part-value y w is = ap only (shr_slice_Tells (named 0) κ u8 y (w ∷ []) is)
+  part_value : (y : Bor (List ℕ)) (w : Val) → Is R y (w ∷ []) → w ≡ vp y
+  part_value y w is = ap only (shr_slice_Tells (named 0) κ u8 y (w ∷ []) is)
 
   module _ (C : Calls 𝓤 H) (Λ : Loops 𝓤 H) (fm : FmC 𝓤 H 𝓛.laws C) (known₁ : Triple 𝓤 (C #record-at) (RecordAt 𝓛 mem run))
       (known₂ : Triple 𝓤 (C #part-of) (PartOf 𝓛 mem run)) where
@@ -293,7 +293,7 @@ module _ {M : Type 1} {𝓤 : Ura M} (𝓛 : Logic 𝓤) (mem : Memory → SProp
         (and_then ! (load ! (from ! (fld ! refl (stop !))) (look_in ! 11 (sub ! 0 refl (whole !))))
         (and_then ! (load ! (from ! (fld ! refl (stop !))) (look_in ! 11 (sub ! 1 refl (whole !)))) (no_more !))))) (from ! (stop !))
         (init ! 17 refl (
-          typed_at r y w (part-value y w is'),
+          typed_at r y w (part_value y w is'),
           (((shr_slice_Lawful 𝓛 erased κ u8).typed y (w ∷ []) is').0.1, ((typed r u is).1.0, ((typed r u is).1.1.0, tt))),
         )) $
         returns ! (look ! 17 refl) $ forget ! 3 refl $ forget ! 5 refl $ forget ! 7 refl $ forget ! 9 refl $ forget ! 11 refl $
@@ -301,15 +301,15 @@ module _ {M : Type 1} {𝓤 : Ura M} (𝓛 : Logic 𝓤) (mem : Memory → SProp
         move ! (17 ∷ 18 ∷ []) $ free1 ! $ move ! (15 ∷ 16 ∷ []) $ free1 ! $ move ! (13 ∷ 14 ∷ []) $ free1 ! $ move ! (11 ∷ 12 ∷ []) $
         free1 ! $ move ! (9 ∷ 10 ∷ []) $ free1 ! $ move ! (7 ∷ 8 ∷ []) $ free1 ! $ move ! (5 ∷ 6 ∷ []) $ free1 ! $
         move ! (3 ∷ 4 ∷ []) $ free1 ! $ free0 ! $
-        by ! (exits-at r y w (part-value y w is') (typed r u is).1 e f)))))))))))))))))
+        by ! (exits_at r y w (part_value y w is') (typed r u is).1 e f)))))))))))))))))
 
 module _ {M : Type 1} {𝓤 : Ura M} (𝓛 : Logic 𝓤) (mem : Memory → SProp 𝓤) (run : Routine → Fun 𝓤) where
   open 𝓛 use {H}
 
-  show-walks : (C : Calls 𝓤 H) (Λ : Loops 𝓤 H) → FmC 𝓤 H 𝓛.laws C → Triple 𝓤 (C #record-at) (RecordAt 𝓛 mem run)
+  show_walks : (C : Calls 𝓤 H) (Λ : Loops 𝓤 H) → FmC 𝓤 H 𝓛.laws C → Triple 𝓤 (C #record-at) (RecordAt 𝓛 mem run)
       → Triple 𝓤 (C #part-of) (PartOf 𝓛 mem run)
       → Walks 𝓛 show.ended stayed (WpFn 𝓤 H C Λ code.function) (show.clauses 𝓛 mem run)
-  show-walks C Λ fm known₁ known₂ =
+  show_walks C Λ fm known₁ known₂ =
       walked 𝓛 show.ended stayed (show.clauses 𝓛 mem run) (WpFn 𝓤 H C Λ code.function)
       (λ κs. (LL.vals (T.the_type (named_lft 1 0 tt κs)) (T'.the_laws (named_lft 1 0 tt κs)), (uint_vals w64, tt)))
       (λ κs. (LL.tells (T.the_type (named_lft 1 0 tt κs)) (T'.the_laws (named_lft 1 0 tt κs)), (uint_Tells w64, tt)))
@@ -317,24 +317,24 @@ module _ {M : Type 1} {𝓤 : Ura M} (𝓛 : Logic 𝓤) (mem : Memory → SProp
       are.1.0.1 C Λ fm known₁ known₂ ((LL.lawful (T.the_type (named_lft 1 0 tt κs)) (T'.the_laws (named_lft 1 0 tt κs)) 𝓛).typed
       a.0 _ are.0).0))
 
-show-meets : {M : Type 1} {𝓤 : Ura M} (𝓛 : Logic 𝓤) (mem : Memory → SProp 𝓤) (run : Routine
+show_meets : {M : Type 1} {𝓤 : Ura M} (𝓛 : Logic 𝓤) (mem : Memory → SProp 𝓤) (run : Routine
     → Fun 𝓤) (𝓣 : Tables 𝓤 𝓛.H)
     → Triple 𝓤 (𝓣.C #record-at) (RecordAt 𝓛 mem run) → Triple 𝓤 (𝓣.C #part-of) (PartOf 𝓛 mem run)
     → Meets 𝓛 show.signature (WpFn 𝓤 𝓛.H 𝓣.C 𝓣.Λ code.function) (show.spec 𝓛 mem run)
-show-meets {𝓤 = 𝓤} 𝓛 mem run 𝓣 known₁ known₂ =
+show_meets {𝓤 = 𝓤} 𝓛 mem run 𝓣 known₁ known₂ =
     walk_Meets 𝓛 show.ended stayed (
       Goes-none 𝓛 1 B yes (λ κs x f. refl),
       (Goes-none 𝓛 1 (λ _. usize) yes (λ κs x f. refl), tt),
     ) (show.clauses 𝓛 mem run) (WpFn 𝓤 𝓛.H 𝓣.C 𝓣.Λ code.function)
     (WpFn-mono 𝓤 𝓛.H 𝓛.laws 𝓣 code.function)
-    (show-walks 𝓛 mem run 𝓣.C 𝓣.Λ (fm_of 𝓤 𝓛.H 𝓛.laws 𝓣) known₁ known₂)
+    (show_walks 𝓛 mem run 𝓣.C 𝓣.Λ (fm_of 𝓤 𝓛.H 𝓛.laws 𝓣) known₁ known₂)
 
 pub show-spec : {M : Type 1} → stated.statement M
 unfolding code.routine tables_of
 show-spec 𝓤 𝓛 𝓜 𝓡 =
     entered 𝓤 𝓛.H (triple_of 𝓛 show.signature (show.spec 𝓛 𝓜.mem 𝓡.run))
     (tables 𝓤 𝓛.H 𝓜 𝓡 code.env).C (tables 𝓤 𝓛.H 𝓜 𝓡 code.env).Λ #show code.function (code.unfolded 𝓤 𝓛.H 𝓜 𝓡)
-    (show-meets 𝓛 𝓜.mem 𝓡.run (tables_of 𝓤 𝓛.H 𝓜 (tables 𝓤 𝓛.H 𝓜 𝓡 code.env))
+    (show_meets 𝓛 𝓜.mem 𝓡.run (tables_of 𝓤 𝓛.H 𝓜 (tables 𝓤 𝓛.H 𝓜 𝓡 code.env))
     (cited 𝓤 𝓛.H (RecordAt 𝓛 𝓜.mem 𝓡.run) 𝓜 𝓡 code.env #record-at record-at-def.routine code.calls-packet-parts::record-at
     (record-at-thm.met 𝓤 𝓛 𝓜 𝓡))
     (cited 𝓤 𝓛.H (PartOf 𝓛 𝓜.mem 𝓡.run) 𝓜 𝓡 code.env #part-of part-of-def.routine code.calls-packet-parts::part-of

@@ -107,11 +107,11 @@ module _ {M : Type 1} {𝓤 : Ura M} (𝓛 : Logic 𝓤) (mem : Memory → SProp
   Entry = on_entry 𝓛 first_step.signature (κ, tt) (q, tt) (k, (s, tt)) at
 
   -- the call of `new`: what it is passed, what it asks, and what is known of its result
-  abbrev to-new : (New 𝓛 mem run).Ghost
-  to-new = (((κ, tt), (q, tt), tt, (k, (s, tt)), at), tt)
+  abbrev to_new : (New 𝓛 mem run).Ghost
+  to_new = (((κ, tt), (q, tt), tt, (k, (s, tt)), at), tt)
 
   abbrev New-asks : SProp 𝓤
-  New-asks = (New 𝓛 mem run).pre to-new
+  New-asks = (New 𝓛 mem run).pre to_new
 
   abbrev New-ensures : PacketReader → SProp 𝓤
   New-ensures r = ensured 𝓛 new.ended (new.clauses 𝓛 mem run) (κ, tt) (k, (s, tt)) tt r
@@ -119,8 +119,8 @@ module _ {M : Type 1} {𝓤 : Ura M} (𝓛 : Logic 𝓤) (mem : Memory → SProp
   abbrev At-40 : PacketReader → Type 0
   At-40 r = (r.bytes ≡ s) × (r.at ≡ 40) × (r.kind ≡ k)
 
-  goes-new : ent 𝓤 Entry (sep 𝓤 New-asks (sem 𝓛 Own))
-  goes-new =
+  goes_new : ent 𝓤 Entry (sep 𝓤 New-asks (sem 𝓛 Own))
+  goes_new =
       qed 𝓛 (token ∷ ‵ (owns (u32 ∷ ShrSlice (named 0) κ u8 ∷ []) (k, (s, tt)) at) ∷ []) ∵
       move ! (1 ∷ []) $ fsplit ! $ drop ! $ fsplit ! $
       use1 𝓛 (‵ Own ⊛ ‵ Own) ((shr_slice_copy 𝓛 (named 0) κ u8).twice s (v ∷ [])) $ split ! $
@@ -128,15 +128,15 @@ module _ {M : Type 1} {𝓤 : Ura M} (𝓛 : Logic 𝓤) (mem : Memory → SProp
       use2 𝓛 (raw New-asks) (qed 𝓛 (token ∷ ‵ (owns (u32 ∷ ShrSlice (named 0) κ u8 ∷ []) (k, (s, tt)) at) ∷ []) ∵ join ! $ frame ! $
       done !) $ frame ! $ done !
 
-  new-said : (r : PacketReader) → ent 𝓤 (New-ensures r) (fact 𝓤 (At-40 r))
-  new-said r = ex_e 𝓤 _ (λ ws. snd∗ 𝓤 (sem 𝓛 (lasts new.ended (κ, tt) (k, (s, tt)) ws)) (fact 𝓤 (At-40 r)))
+  new_said : (r : PacketReader) → ent 𝓤 (New-ensures r) (fact 𝓤 (At-40 r))
+  new_said r = ex_e 𝓤 _ (λ ws. snd∗ 𝓤 (sem 𝓛 (lasts new.ended (κ, tt) (k, (s, tt)) ws)) (fact 𝓤 (At-40 r)))
 
   -- the call of `peek`, at the struct r with the machine value u
-  abbrev to-peek : PacketReader → Val → (Peek 𝓛 mem run).Ghost
-  to-peek r u = (((κ, tt), (q, tt), tt, (r, tt), (u ∷ [], tt)), tt)
+  abbrev to_peek : PacketReader → Val → (Peek 𝓛 mem run).Ghost
+  to_peek r u = (((κ, tt), (q, tt), tt, (r, tt), (u ∷ [], tt)), tt)
 
   abbrev Peek-asks : PacketReader → Val → SProp 𝓤
-  Peek-asks r u = (Peek 𝓛 mem run).pre (to-peek r u)
+  Peek-asks r u = (Peek 𝓛 mem run).pre (to_peek r u)
 
   abbrev Peek-ensures : PacketReader → PacketStep → SProp 𝓤
   Peek-ensures r t = ensured 𝓛 peek.ended (peek.clauses 𝓛 mem run) (κ, tt) (r, tt) tt t
@@ -144,13 +144,13 @@ module _ {M : Type 1} {𝓤 : Ura M} (𝓛 : Logic 𝓤) (mem : Memory → SProp
   abbrev Peeked : PacketReader → PacketStep → Type 0
   Peeked r t = t ≡ step_of r.kind r.bytes.now r.at
 
-  goes-peek : (r : PacketReader) (u : Val) → ent 𝓤 (⋆ 𝓛 (‵ ((B (κ, tt)).own_val r (u ∷ [])) ∷ token ∷ [])) (Peek-asks r u)
-  goes-peek r u =
+  goes_peek : (r : PacketReader) (u : Val) → ent 𝓤 (⋆ 𝓛 (‵ ((B (κ, tt)).own_val r (u ∷ [])) ∷ token ∷ [])) (Peek-asks r u)
+  goes_peek r u =
       qed 𝓛 (‵ ((B (κ, tt)).own_val r (u ∷ [])) ∷ token ∷ []) ∵ nothing ! $ move ! (1 ∷ 0 ∷ []) $ fjoin ! $ move ! (1 ∷ 0 ∷ []) $ join ! $
       frame ! $ done !
 
-  peek-said : (r : PacketReader) (t : PacketStep) → ent 𝓤 (Peek-ensures r t) (fact 𝓤 (Peeked r t))
-  peek-said r t = ex_e 𝓤 _ (λ ws. snd∗ 𝓤 (sem 𝓛 (lasts peek.ended (κ, tt) (r, tt) ws)) (fact 𝓤 (Peeked r t)))
+  peek_said : (r : PacketReader) (t : PacketStep) → ent 𝓤 (Peek-ensures r t) (fact 𝓤 (Peeked r t))
+  peek_said r t = ex_e 𝓤 _ (λ ws. snd∗ 𝓤 (sem 𝓛 (lasts peek.ended (κ, tt) (r, tt) ws)) (fact 𝓤 (Peeked r t)))
 
   exits : (t : PacketStep) (u : Val) → t ≡ found → ent 𝓤 (⋆ 𝓛 (‵ ((S.the_row).own_val t (u ∷ [])) ∷ token ∷ ‵ Own ∷ [])) (Post u)
   exits t u e =
@@ -174,21 +174,21 @@ module _ {M : Type 1} {𝓤 : Ura M} (𝓛 : Logic 𝓤) (mem : Memory → SProp
         alloc1 ! (λ l₀. alloc1 ! (λ l₁. alloc1 ! (λ l₂. alloc1 ! (λ l₃. alloc0 ! $ params1 ! $
         pass1 ! (init ! 4 refl (tt, record { fits = kok })) $
         pass1 ! (init ! 2 refl ((shr_slice_Lawful 𝓛 (named 0) κ u8).typed s (v ∷ []) p).0) $ pass0 ! $
-        move ! (8 ∷ []) $ use1 𝓛 (raw New-asks ⊛ ‵ Own) goes-new $ split ! $
-        calls_at ! fm (New 𝓛 mem run) known-new to-new (and_then ! (load ! (from ! (stop !)) (look ! 6 refl))
+        move ! (8 ∷ []) $ use1 𝓛 (raw New-asks ⊛ ‵ Own) goes_new $ split ! $
+        calls_at ! fm (New 𝓛 mem run) known-new to_new (and_then ! (load ! (from ! (stop !)) (look ! 6 refl))
         (and_then ! (load ! (from ! (stop !)) (look ! 4 refl)) (no_more !))) (λ u.
         use1 𝓛 (later (some (λ (r : PacketReader). (token ⊛ ‵ ((B (κ, tt)).own_val r (u ∷ []))) ⊛ raw (New-ensures r)))) (id⊢ 𝓤 _) $ await ! tt $
         pick ! (λ r.
-        split ! $ move ! (1 ∷ []) $ use1 𝓛 (raw (fact 𝓤 (At-40 r))) (new-said r) $ heard ! (At-40 r) (λ e. split ! $ move ! (1 ∷ []) $
+        split ! $ move ! (1 ∷ []) $ use1 𝓛 (raw (fact 𝓤 (At-40 r))) (new_said r) $ heard ! (At-40 r) (λ e. split ! $ move ! (1 ∷ []) $
         -- [what the struct owns; the token; what s owns; room for _3; …; _2; …; _1; …; room for _0; …]
         peeks ! (B (κ, tt)) (Is (B (κ, tt))) (shows 𝓛 (B (κ, tt))) r (u ∷ []) (λ is.
         land ! (from ! (stop !)) (init ! 3 refl ((LL.lawful (T.the_type αᵉ) (T'.the_laws αᵉ) 𝓛).typed r _ is).0) $
-        use2 𝓛 (raw (Peek-asks r u)) (goes-peek r u) $
-        calls_at ! fm (Peek 𝓛 mem run) known-peek (to-peek r u) (and_then ! (load ! (from ! (stop !)) (look ! 2 refl)) (no_more !))
+        use2 𝓛 (raw (Peek-asks r u)) (goes_peek r u) $
+        calls_at ! fm (Peek 𝓛 mem run) known-peek (to_peek r u) (and_then ! (load ! (from ! (stop !)) (look ! 2 refl)) (no_more !))
         (λ u'.
         use1 𝓛 (later (some (λ (t : PacketStep). (token ⊛ ‵ ((S.the_row).own_val t (u' ∷ []))) ⊛ raw (Peek-ensures r t)))) (id⊢ 𝓤 _) $
         await ! tt $ pick ! (λ t.
-        split ! $ move ! (1 ∷ []) $ use1 𝓛 (raw (fact 𝓤 (Peeked r t))) (peek-said r t) $ heard ! (Peeked r t) (λ e'. split ! $
+        split ! $ move ! (1 ∷ []) $ use1 𝓛 (raw (fact 𝓤 (Peeked r t))) (peek_said r t) $ heard ! (Peeked r t) (λ e'. split ! $
         move ! (1 ∷ []) $
         -- [the result; the token; what s owns; _3; …; _2; …; _1; …; room for _0; …]
         peeks ! S.the_row (Is S.the_row) (shows 𝓛 S.the_row) t (u' ∷ []) (λ is'.
@@ -200,32 +200,32 @@ module _ {M : Type 1} {𝓤 : Ura M} (𝓛 : Logic 𝓤) (mem : Memory → SProp
 module _ {M : Type 1} {𝓤 : Ura M} (𝓛 : Logic 𝓤) (mem : Memory → SProp 𝓤) (run : Routine → Fun 𝓤) where
   open 𝓛 use {H}
 
-  first-step-walks : (C : Calls 𝓤 H) (Λ : Loops 𝓤 H) → FmC 𝓤 H 𝓛.laws C → Triple 𝓤 (C #new) (New 𝓛 mem run)
+  first_step_walks : (C : Calls 𝓤 H) (Λ : Loops 𝓤 H) → FmC 𝓤 H 𝓛.laws C → Triple 𝓤 (C #new) (New 𝓛 mem run)
       → Triple 𝓤 (C #peek) (Peek 𝓛 mem run)
       → Walks 𝓛 first_step.ended stayed (WpFn 𝓤 H C Λ code.function) (first_step.clauses 𝓛 mem run)
-  first-step-walks C Λ fm known-new known-peek =
+  first_step_walks C Λ fm known-new known-peek =
       walked 𝓛 first_step.ended stayed (first_step.clauses 𝓛 mem run) (WpFn 𝓤 H C Λ code.function)
       (λ κs. (uint_vals w32, (shr_slice_vals, tt))) (λ κs. (uint_Tells w32, (shr_slice_Tells (named 0) κs.0 u8, tt)))
       (λ κs qs bounds a g are. via 𝓤 _ (fst∗ 𝓤 _ (emp 𝓤)) (walk 𝓛 mem run κs.0 qs.0 a.0 are.0.1 a.1.0 C Λ fm
       known-new known-peek are.1.0))
 
-first-step-meets : {M : Type 1} {𝓤 : Ura M} (𝓛 : Logic 𝓤) (mem : Memory → SProp 𝓤) (run : Routine
+first_step_meets : {M : Type 1} {𝓤 : Ura M} (𝓛 : Logic 𝓤) (mem : Memory → SProp 𝓤) (run : Routine
     → Fun 𝓤) (𝓣 : Tables 𝓤 𝓛.H)
     → Triple 𝓤 (𝓣.C #new) (New 𝓛 mem run) → Triple 𝓤 (𝓣.C #peek) (Peek 𝓛 mem run)
     → Meets 𝓛 first_step.signature (WpFn 𝓤 𝓛.H 𝓣.C 𝓣.Λ code.function) (first_step.spec 𝓛 mem run)
-first-step-meets {𝓤 = 𝓤} 𝓛 mem run 𝓣 known-new known-peek =
+first_step_meets {𝓤 = 𝓤} 𝓛 mem run 𝓣 known-new known-peek =
     walk_Meets 𝓛 first_step.ended stayed (
       Goes-none 𝓛 1 (λ _. u32) yes (λ κs x f. refl),
       (Goes-none_slice 𝓛 1 (0 ∷ []) tt (plain (λ _. u8)) yes, tt),
     ) (first_step.clauses 𝓛 mem run) (WpFn 𝓤 𝓛.H 𝓣.C 𝓣.Λ code.function) (WpFn-mono 𝓤 𝓛.H 𝓛.laws 𝓣 code.function)
-    (first-step-walks 𝓛 mem run 𝓣.C 𝓣.Λ (fm_of 𝓤 𝓛.H 𝓛.laws 𝓣) known-new known-peek)
+    (first_step_walks 𝓛 mem run 𝓣.C 𝓣.Λ (fm_of 𝓤 𝓛.H 𝓛.laws 𝓣) known-new known-peek)
 
 pub first-step-spec : {M : Type 1} → stated.statement M
 unfolding code.routine tables_of
 first-step-spec 𝓤 𝓛 𝓜 𝓡 =
     entered 𝓤 𝓛.H (triple_of 𝓛 first_step.signature (first_step.spec 𝓛 𝓜.mem 𝓡.run))
     (tables 𝓤 𝓛.H 𝓜 𝓡 code.env).C (tables 𝓤 𝓛.H 𝓜 𝓡 code.env).Λ #first-step code.function (code.unfolded 𝓤 𝓛.H 𝓜 𝓡)
-    (first-step-meets 𝓛 𝓜.mem 𝓡.run (tables_of 𝓤 𝓛.H 𝓜 (tables 𝓤 𝓛.H 𝓜 𝓡 code.env))
+    (first_step_meets 𝓛 𝓜.mem 𝓡.run (tables_of 𝓤 𝓛.H 𝓜 (tables 𝓤 𝓛.H 𝓜 𝓡 code.env))
     (cited 𝓤 𝓛.H (New 𝓛 𝓜.mem 𝓡.run) 𝓜 𝓡 code.env #new new-def.routine code.calls-packet-reader::new (new-thm.met 𝓤 𝓛 𝓜 𝓡))
     (cited 𝓤 𝓛.H (Peek 𝓛 𝓜.mem 𝓡.run) 𝓜 𝓡 code.env #peek peek-def.routine code.calls-packet-reader::peek
     (peek-thm.met 𝓤 𝓛 𝓜 𝓡)))

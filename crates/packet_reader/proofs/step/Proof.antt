@@ -55,7 +55,7 @@ use Rattle.packet.proofs.PacketStep.TheLaws as S'
 use Rattle.packet_reader.specs.declared.PacketReader.{PacketReader}
 use Rattle.packet_reader.specs.contracts.PacketReader as T
 use Rattle.packet_reader.proofs.PacketReader.TheLaws as T'
-use Rattle.packet_reader.specs.contracts.step_at as step-at
+use Rattle.packet_reader.specs.contracts.step_at as step_at
 use Rattle.packet_reader.proofs.step_at.Symbol as step-at-def
 use Rattle.packet_reader.proofs.step_at.Symbol.{name as #step-at}
 use Rattle.packet_reader.proofs.step_at.Met as step-at-thm
@@ -81,7 +81,7 @@ stayed = (stay_ref (0 ∷ []) tt behind, tt)
 module _ {M : Type 1} {𝓤 : Ura M} (𝓛 : Logic 𝓤) (mem : Memory → SProp 𝓤) (run : Routine → Fun 𝓤) where
   -- the contract that the proof cites
   abbrev StepAt : Contract 𝓤
-  StepAt = triple_of 𝓛 step-at.signature (step-at.spec 𝓛 mem run)
+  StepAt = triple_of 𝓛 step_at.signature (step_at.spec 𝓛 mem run)
 
 module _ {M : Type 1} {𝓤 : Ura M} (𝓛 : Logic 𝓤) (at_mem : Memory → SProp 𝓤) (run : Routine
     → Fun 𝓤) (κ κ' : Lft) (q q' : Share) (bounds : AllOutlive 2 (step.signature).outlives (κ, (κ', tt))) (b o : ℕ) (γ : GName)
@@ -129,7 +129,7 @@ module _ {M : Type 1} {𝓤 : Ura M} (𝓛 : Logic 𝓤) (at_mem : Memory → SP
   token = ‵ (flft κ' q') ⊛ ‵ ftrue
 
   -- what the callee is passed
-  abbrev passed : Vals step-at.signature (κ', tt)
+  abbrev passed : Vals step_at.signature (κ', tt)
   passed = (vint w32 h.kind ∷ [], (v ∷ [], (vint w64 h.at ∷ [], tt)))
 
   abbrev to : (StepAt 𝓛 at_mem run).Ghost
@@ -140,9 +140,9 @@ module _ {M : Type 1} {𝓤 : Ura M} (𝓛 : Logic 𝓤) (at_mem : Memory → SP
 
   -- what it ensures of its answer
   abbrev Ensures : PacketStep → SProp 𝓤
-  Ensures r = ensured 𝓛 step-at.ended (step-at.clauses 𝓛 at_mem run) (κ', tt) (h.kind, (h.bytes, (h.at, tt))) tt r
+  Ensures r = ensured 𝓛 step_at.ended (step_at.clauses 𝓛 at_mem run) (κ', tt) (h.kind, (h.bytes, (h.at, tt))) tt r
 
-  asked : ent 𝓤 (on_entry 𝓛 step-at.signature (κ', tt) (q', tt) (h.kind, (h.bytes, (h.at, tt))) passed) Asks
+  asked : ent 𝓤 (on_entry 𝓛 step_at.signature (κ', tt) (q', tt) (h.kind, (h.bytes, (h.at, tt))) passed) Asks
   asked =
       qed 𝓛 (token ∷ ‵ (owns (u32 ∷ ShrSlice (named 0) κ' u8 ∷ usize ∷ []) (h.kind, (h.bytes, (h.at, tt))) passed) ∷ []) ∵
       join ! $ frame ! $ done !
@@ -164,7 +164,7 @@ module _ {M : Type 1} {𝓤 : Ura M} (𝓛 : Logic 𝓤) (at_mem : Memory → SP
   -- of the callee's `ensured`, the clause alone
   said : (r : PacketStep) → ent 𝓤 (Ensures r) (fact 𝓤 (r ≡ found))
   said r =
-      ex_e 𝓤 _ (λ ws. snd∗ 𝓤 (sem 𝓛 (lasts step-at.ended (κ', tt) (h.kind, (h.bytes, (h.at, tt))) ws)) (fact 𝓤 (r ≡ found)))
+      ex_e 𝓤 _ (λ ws. snd∗ 𝓤 (sem 𝓛 (lasts step_at.ended (κ', tt) (h.kind, (h.bytes, (h.at, tt))) ws)) (fact 𝓤 (r ≡ found)))
 
   -- what the slice owns is kept, and the offset's facts are made anew
   again : (m : ℕ) → m < 2 ^ 64 → ent 𝓤 (sem 𝓛 Own) (sem 𝓛 ((B κ').own_val (moved m) (T'.lowered (moved m) ∷ [])))
@@ -173,19 +173,19 @@ module _ {M : Type 1} {𝓤 : Ura M} (𝓛 : Logic 𝓤) (at_mem : Memory → SP
       by ! (own_put 𝓛 D L 1 vd m mach)
 
   -- what is there at the end: the closed borrow at the reader behind the record, both tokens, and the answer
-  abbrev behind-it : PacketStep → PacketReader
-  behind-it r = moved r.next.at
+  abbrev behind_it : PacketStep → PacketReader
+  behind_it r = moved r.next.at
 
   abbrev left : PacketStep → List (Item 𝓤)
   left r =
-      ‵ (fobs γ ((B κ').coded.code (behind-it r))) ∷ ‵ (fbor κ (Body (mem (B κ')) b o γ)) ∷ ‵ (flft κ q)
+      ‵ (fobs γ ((B κ').coded.code (behind_it r))) ∷ ‵ (fbor κ (Body (mem (B κ')) b o γ)) ∷ ‵ (flft κ q)
       ∷ ‵ ((S.the_row).own_val r (S'.lowered r ∷ [])) ∷ token ∷ []
 
   exits : (r : PacketStep) → r ≡ found → ent 𝓤 (⋆ 𝓛 (left r)) (Post (S'.lowered r))
   exits r e =
       qed 𝓛 (left r) ∵
       suffices ! _ (ends_at 𝓛 step.ended stayed (step.clauses 𝓛 at_mem run) (((κ, (κ', tt)), (q, (q', tt)), bounds, x, at), tt)
-      (S'.lowered r) r (behind-it r, tt) (tt, tt)) $
+      (S'.lowered r) r (behind_it r, tt) (tt, tt)) $
       says ! (record { answers = e; same_bytes = refl; same_kind = refl; moves = refl }) $
       move ! (2 ∷ 4 ∷ []) $ join ! $ frame ! $ feq_i ! (List Val) (vptr b o ∷ []) (vptr b o ∷ []) refl $ fjoin3 ! $ nothing ! $
       move ! (1 ∷ 0 ∷ []) $ fjoin ! $ done !
@@ -236,11 +236,11 @@ module _ {M : Type 1} {𝓤 : Ura M} (𝓛 : Logic 𝓤) (at_mem : Memory → SP
         (from ! (hop ! (look ! 16 refl) (fld ! refl (stop !))))
         (store_in ! 3 (sub ! 1 refl (whole !)) (tt, (typed r u is).1.1.1.1.1.0.0)) $
         assigns ! (of_opd ! (load ! (from ! (stop !)) (look ! 14 refl))) (from ! (stop !)) (init ! 18 refl (typed r u is)) $
-        move ! (2 ∷ []) $ use1 𝓛 (‵ ((B κ').own_val (behind-it r) (T'.lowered (behind-it r) ∷ [])))
+        move ! (2 ∷ []) $ use1 𝓛 (‵ ((B κ').own_val (behind_it r) (T'.lowered (behind_it r) ∷ [])))
         (again r.next.at (typed r u is).1.1.1.1.1.0.0.fits) $ move ! (3 ∷ []) $
-        use1 𝓛 (‵ (cell_at full_share (B κ').mir (T'.lowered (behind-it r) ∷ []) b o))
-        (𝓛.laws.at_raw full_share (T'.mir erased) b o (T'.lowered (behind-it r))) $ move ! (0 ∷ 1 ∷ 4 ∷ 5 ∷ 6 ∷ []) $
-        closes ! tt (B κ') (behind-it r) (T'.lowered (behind-it r) ∷ []) b o $
+        use1 𝓛 (‵ (cell_at full_share (B κ').mir (T'.lowered (behind_it r) ∷ []) b o))
+        (𝓛.laws.at_raw full_share (T'.mir erased) b o (T'.lowered (behind_it r))) $ move ! (0 ∷ 1 ∷ 4 ∷ 5 ∷ 6 ∷ []) $
+        closes ! tt (B κ') (behind_it r) (T'.lowered (behind_it r) ∷ []) b o $
         -- [obs; the borrow; the outer token; the answer; the inner token; …; _5; …; _4; …; _3; …; _2; …; _1; …; _0; …]
         returns ! (look ! 16 refl) $ forget ! 6 refl $ forget ! 8 refl $ forget ! 10 refl $ forget ! 12 refl $ forget ! 14 refl $
         forget ! 16 refl $ move ! (16 ∷ 17 ∷ []) $ free1 ! $ move ! (14 ∷ 15 ∷ []) $ free1 ! $ move ! (12 ∷ 13 ∷ []) $ free1 ! $
@@ -250,28 +250,28 @@ module _ {M : Type 1} {𝓤 : Ura M} (𝓛 : Logic 𝓤) (at_mem : Memory → SP
 module _ {M : Type 1} {𝓤 : Ura M} (𝓛 : Logic 𝓤) (mem : Memory → SProp 𝓤) (run : Routine → Fun 𝓤) where
   open 𝓛 use {H}
 
-  step-walks : (C : Calls 𝓤 H) (Λ : Loops 𝓤 H) → FmC 𝓤 H 𝓛.laws C → Triple 𝓤 (C #step-at) (StepAt 𝓛 mem run)
+  step_walks : (C : Calls 𝓤 H) (Λ : Loops 𝓤 H) → FmC 𝓤 H 𝓛.laws C → Triple 𝓤 (C #step-at) (StepAt 𝓛 mem run)
       → Walks 𝓛 step.ended stayed (WpFn 𝓤 H C Λ code.function) (step.clauses 𝓛 mem run)
-  step-walks C Λ fm known =
+  step_walks C Λ fm known =
       walked 𝓛 step.ended stayed (step.clauses 𝓛 mem run) (WpFn 𝓤 H C Λ code.function) (λ κs. (mut_vals, tt))
       (λ κs. (mut_Tells (named 0) κs.0 (B κs.1.0), tt))
       (λ κs qs bounds a g are. via 𝓤 _ (fst∗ 𝓤 _ (emp 𝓤)) (walk 𝓛 mem run κs.0 κs.1.0 qs.0 qs.1.0 bounds a.0.ptr.0
       a.0.ref_ptr.1 a.0.ghost_name a.0.now C Λ fm known))
 
-step-meets : {M : Type 1} {𝓤 : Ura M} (𝓛 : Logic 𝓤) (mem : Memory → SProp 𝓤) (run : Routine
+step_meets : {M : Type 1} {𝓤 : Ura M} (𝓛 : Logic 𝓤) (mem : Memory → SProp 𝓤) (run : Routine
     → Fun 𝓤) (𝓣 : Tables 𝓤 𝓛.H)
     → Triple 𝓤 (𝓣.C #step-at) (StepAt 𝓛 mem run)
     → Meets 𝓛 step.signature (WpFn 𝓤 𝓛.H 𝓣.C 𝓣.Λ code.function) (step.spec 𝓛 mem run)
-step-meets {𝓤 = 𝓤} 𝓛 mem run 𝓣 known =
+step_meets {𝓤 = 𝓤} 𝓛 mem run 𝓣 known =
     walk_Meets 𝓛 step.ended stayed (Goes-ref 𝓛 2 0 tt behind, tt) (step.clauses 𝓛 mem run)
     (WpFn 𝓤 𝓛.H 𝓣.C 𝓣.Λ code.function) (WpFn-mono 𝓤 𝓛.H 𝓛.laws 𝓣 code.function)
-    (step-walks 𝓛 mem run 𝓣.C 𝓣.Λ (fm_of 𝓤 𝓛.H 𝓛.laws 𝓣) known)
+    (step_walks 𝓛 mem run 𝓣.C 𝓣.Λ (fm_of 𝓤 𝓛.H 𝓛.laws 𝓣) known)
 
 pub step_spec : {M : Type 1} → stated.statement M
 unfolding code.routine tables_of
 step_spec 𝓤 𝓛 𝓜 𝓡 =
     entered 𝓤 𝓛.H (triple_of 𝓛 step.signature (step.spec 𝓛 𝓜.mem 𝓡.run))
     (tables 𝓤 𝓛.H 𝓜 𝓡 code.env).C (tables 𝓤 𝓛.H 𝓜 𝓡 code.env).Λ #step code.function (code.unfolded 𝓤 𝓛.H 𝓜 𝓡)
-    (step-meets 𝓛 𝓜.mem 𝓡.run (tables_of 𝓤 𝓛.H 𝓜 (tables 𝓤 𝓛.H 𝓜 𝓡 code.env))
+    (step_meets 𝓛 𝓜.mem 𝓡.run (tables_of 𝓤 𝓛.H 𝓜 (tables 𝓤 𝓛.H 𝓜 𝓡 code.env))
     (cited 𝓤 𝓛.H (StepAt 𝓛 𝓜.mem 𝓡.run) 𝓜 𝓡 code.env #step-at step-at-def.routine code.calls-packet-reader::step-at
     (step-at-thm.met 𝓤 𝓛 𝓜 𝓡)))

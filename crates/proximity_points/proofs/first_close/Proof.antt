@@ -2,7 +2,7 @@
 use native.Mathlib.Omega.{arith}
 use Prim.Native.Nat.{◌-◌}
 use borrow.Author.Rules.{rules}
-use Rattle.proximity.proofs.PointLaws.{Scanning, scanning-start, scanning-on, scanning-found, scanning-end}
+use Rattle.proximity.proofs.PointLaws.{Scanning, scanning_start, scanning_on, scanning_found, scanning_end}
 use Rattle.proximity_points.proofs.first_close.Statement.{statement}
 use Rattle.proximity_points.proofs.first_close.Tie as tie
 
@@ -13,7 +13,7 @@ abbrev decreases-loop : tie.decreases-loop
 decreases-loop points limit count i₀ i = count - i
 
 loop-holds : tie.Need-loop-init invariant-loop decreases-loop
-loop-holds c = scanning-start _ _ _
+loop-holds c = scanning_start _ _ _
 
 mul-from : tie.Need-overflow-mul-from invariant-loop decreases-loop
 mul-from c = search rules
@@ -36,7 +36,7 @@ is-close-requires c κs = search rules
 returns : tie.Need-returns invariant-loop decreases-loop
 returns c =
     let told = c.before in let at-loop = told.before.before.before in
-    scanning-found _ _ _ at-loop.loop.invariant (omega arith) (omega arith) told.is-close.ensures c.if1.true
+    scanning_found _ _ _ at-loop.loop.invariant (omega arith) (omega arith) told.is-close.ensures c.if1.true
 
 add-i : tie.Need-overflow-add-i invariant-loop decreases-loop
 add-i c = search rules
@@ -47,10 +47,10 @@ loop-less c = search rules
 loop-again : tie.Need-loop-preserved invariant-loop decreases-loop
 loop-again c =
     let told = c.before in let at-loop = told.before.before.before in
-    scanning-on _ _ _ at-loop.loop.invariant (omega arith) (omega arith) told.is-close.ensures c.if1.false
+    scanning_on _ _ _ at-loop.loop.invariant (omega arith) (omega arith) told.is-close.ensures c.if1.false
 
 returns-2 : tie.Need-returns-2 invariant-loop decreases-loop
-returns-2 c = scanning-end _ _ _ c.before.loop.invariant (omega arith)
+returns-2 c = scanning_end _ _ _ c.before.loop.invariant (omega arith)
 
 pub first-close-spec : {M : Type 1} → statement M
 first-close-spec =

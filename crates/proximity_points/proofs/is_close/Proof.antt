@@ -1,6 +1,6 @@
 -- `proximity_points::is_close` meets its contract: the first coordinate beyond the limit decides, else the last one.
 use borrow.Author.Rules.{rules}
-use Rattle.proximity.proofs.PointLaws.{x-beyond, y-beyond, z-decides}
+use Rattle.proximity.proofs.PointLaws.{x_beyond, y_beyond, z_decides}
 use Rattle.proximity_points.proofs.is_close.Statement.{statement}
 use Rattle.proximity_points.proofs.is_close.Tie as tie
 
@@ -25,18 +25,18 @@ is-within-requires-3 c κs = search rules
 returns : tie.Need-returns
 returns c =
     let y = c.before.before in let x = y.before.before.before in
-    z-decides _ _ _ x.before.before.word_at.ensures x.before.is_Within.ensures _ x.if1.true
+    z_decides _ _ _ x.before.before.word_at.ensures x.before.is_Within.ensures _ x.if1.true
     y.before.before.word-at2.ensures y.before.is-within2.ensures _ y.if2.true
     c.before.word-at3.ensures c.is-within3.ensures
 
 returns-2 : tie.Need-returns-2
 returns-2 c =
     let x = c.before.before.before in
-    y-beyond _ _ _ x.before.before.word_at.ensures x.before.is_Within.ensures _ x.if1.true
+    y_beyond _ _ _ x.before.before.word_at.ensures x.before.is_Within.ensures _ x.if1.true
     c.before.before.word-at2.ensures c.before.is-within2.ensures c.if2.false
 
 returns-3 : tie.Need-returns-3
-returns-3 c = x-beyond _ _ _ c.before.before.word_at.ensures c.before.is_Within.ensures c.if1.false
+returns-3 c = x_beyond _ _ _ c.before.before.word_at.ensures c.before.is_Within.ensures c.if1.false
 
 pub is-close-spec : {M : Type 1} → statement M
 is-close-spec =

@@ -4,12 +4,12 @@ use Rattle.form.proofs.PieceLaws.{judges}
 use mathlib.Core.Path.{sym, ap, ◌∙◌}
 use native.Mathlib.Omega.{arith}
 use Rattle.form.specs.declared.Judgement.TheVariants.{Bad}
-use Rattle.sirad.proofs.Runs.{one-ends, one_hit, one-miss}
+use Rattle.sirad.proofs.Runs.{one_ends, one_hit, one_miss}
 use Rattle.sirad_bytes.proofs.byte_of.Statement.{statement}
 use Rattle.sirad_bytes.proofs.byte_of.Tie as tie
 
 returns : tie.Need-returns
-returns c = judges (one-ends _ _ _ _ c.if1.true)
+returns c = judges (one_ends _ _ _ _ c.if1.true)
 
 shared-slice-read-b : tie.Need-shared-slice-read-b
 shared-slice-read-b c = search rules
@@ -36,7 +36,7 @@ reason-of-requires c κs = search rules
 returns-3 : tie.Need-returns-3
 returns-3 c =
     let i2 = c.before in let i = i2.before in let i1 = i.before.before in
-    judges (ap Bad c.reason-of.ensures ∙ one-miss _ _ _ _ i1.if1.false (sym i.is-of.ensures ∙ i2.if2.false))
+    judges (ap Bad c.reason-of.ensures ∙ one_miss _ _ _ _ i1.if1.false (sym i.is-of.ensures ∙ i2.if2.false))
 
 pub byte-of-spec : {M : Type 1} → statement M
 byte-of-spec =

@@ -2,12 +2,12 @@
 use borrow.Author.Rules.{rules}
 use borrow.Author.Tests.{eq-eqb, ne_eqb}
 use Rattle.form.proofs.PieceLaws.{judges}
-use Rattle.sirad.proofs.Runs.{one-ends, one_hit, one-miss}
+use Rattle.sirad.proofs.Runs.{one_ends, one_hit, one_miss}
 use Rattle.sirad_bytes.proofs.fixed_at.Statement.{statement}
 use Rattle.sirad_bytes.proofs.fixed_at.Tie as tie
 
 returns : tie.Need-returns
-returns c = judges (one-ends _ _ _ _ c.if1.true)
+returns c = judges (one_ends _ _ _ _ c.if1.true)
 
 shared-slice-read-b : tie.Need-shared-slice-read-b
 shared-slice-read-b c = search rules
@@ -22,7 +22,7 @@ returns-2 : tie.Need-returns-2
 returns-2 c = judges (one_hit _ _ _ _ c.before.before.if1.false (eq-eqb _ _ c.if2.true))
 
 returns-3 : tie.Need-returns-3
-returns-3 c = judges (one-miss _ _ _ _ c.before.before.if1.false (ne_eqb _ _ c.if2.false))
+returns-3 c = judges (one_miss _ _ _ _ c.before.before.if1.false (ne_eqb _ _ c.if2.false))
 
 pub fixed-at-spec : {M : Type 1} → statement M
 fixed-at-spec =

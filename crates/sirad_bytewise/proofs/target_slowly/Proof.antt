@@ -2,7 +2,7 @@
 use borrow.Author.Rules.{rules}
 use mathlib.Core.Path.{sym, ◌∙◌}
 use Rattle.form.proofs.PieceLaws.{go_on, halt}
-use Rattle.sirad.proofs.FrameLaws.{target-form}
+use Rattle.sirad.proofs.FrameLaws.{target_form}
 use Rattle.sirad_bytewise.proofs.target_slowly.Statement.{statement}
 use Rattle.sirad_bytewise.proofs.target_slowly.Tie as tie
 
@@ -14,7 +14,7 @@ enum-known-a c = search rules
 
 returns : tie.Need-returns
 returns c = halt _ _ _ _ c.before.span.ensures.answers c.match.keys2
-    ∙ sym (target-form _ _)
+    ∙ sym (target_form _ _)
 
 span-requires-2 : tie.Need-span-requires-2
 span-requires-2 c κs = search rules
@@ -27,7 +27,7 @@ returns-2 c =
     let s2 = c.before in let a = s2.before.before in let s = a.before.before in
     halt _ _ _ _ s2.span2.ensures.answers c.match2.keys2
     ∙ sym (go_on _ _ _ _ s.span.ensures.answers a.a.given.1)
-    ∙ sym (target-form _ _)
+    ∙ sym (target_form _ _)
 
 span-requires-3 : tie.Need-span-requires-3
 span-requires-3 c κs = search rules
@@ -42,7 +42,7 @@ returns-3 c =
     halt _ _ _ _ s3.span3.ensures.answers c.match3.keys2
     ∙ sym (go_on _ _ _ _ s2.span2.ensures.answers b.b.given.1)
     ∙ sym (go_on _ _ _ _ s.span.ensures.answers a.a.given.1)
-    ∙ sym (target-form _ _)
+    ∙ sym (target_form _ _)
 
 span-requires-4 : tie.Need-span-requires-4
 span-requires-4 c κs = search rules
@@ -55,7 +55,7 @@ returns-4 c =
     ∙ sym (go_on _ _ _ _ s3.span3.ensures.answers w.c.given.1)
     ∙ sym (go_on _ _ _ _ s2.span2.ensures.answers b.b.given.1)
     ∙ sym (go_on _ _ _ _ s.span.ensures.answers a.a.given.1)
-    ∙ sym (target-form _ _)
+    ∙ sym (target_form _ _)
 
 pub target-slowly-spec : {M : Type 1} → statement M
 target-slowly-spec =

@@ -5,24 +5,24 @@ use lib.Dec.{lit<}
 use lib.ListN.{get_or}
 use mathlib.Core.Path.{◌≡◌, sym, ◌∙◌}
 use native.Mathlib.Omega.{arith}
-use Rattle.digits.proofs.HexLaws.{digit-small, hex-grows}
-use Rattle.form.specs.Form.{judgeAt}
+use Rattle.digits.proofs.HexLaws.{digit_small, hex_grows}
+use Rattle.form.specs.Form.{judge_at}
 use Rattle.sirad.specs.Sirad.{number}
-use Rattle.sirad.proofs.Numbers.{number-none, number_fits, number-ends, number-miss, number-hit, number-over}
+use Rattle.sirad.proofs.Numbers.{number_none, number_fits, number_ends, number_miss, number_hit, number_over}
 use Rattle.sirad_judge.proofs.hex_number.Statement.{statement}
 use Rattle.sirad_judge.proofs.hex_number.Tie as tie
 
 abbrev invariant-loop : tie.invariant-loop
-invariant-loop s from n v₀ at₀ i₀ v at i = (i ≤ n) × (v < 16 ^ i) × (judgeAt (number n 0) from s ≡ judgeAt (number (n - i) v) at s)
+invariant-loop s from n v₀ at₀ i₀ v at i = (i ≤ n) × (v < 16 ^ i) × (judge_at (number n 0) from s ≡ judge_at (number (n - i) v) at s)
 
 abbrev decreases-loop : tie.decreases-loop
 decreases-loop s from n v₀ at₀ i₀ v at i = n - i
 
 loop-holds : tie.Need-loop-init invariant-loop decreases-loop
-loop-holds c = (omega arith, lit< tt, number-none _ _ _)
+loop-holds c = (omega arith, lit< tt, number_none _ _ _)
 
 returns : tie.Need-returns invariant-loop decreases-loop
-returns c = number-ends _ _ _ _ _ c.before.loop-test.true c.if1.true ∙ sym c.before.before.loop.invariant.2
+returns c = number_ends _ _ _ _ _ c.before.loop-test.true c.if1.true ∙ sym c.before.before.loop.invariant.2
 
 shared-slice-read-b : tie.Need-shared-slice-read-b invariant-loop decreases-loop
 shared-slice-read-b c = search rules
@@ -49,7 +49,7 @@ add-v c =
     omega (
       arith,
       number_fits l.i a.n l.v turn.loop-test.true start.requires l.invariant.1,
-      digit-small (get_or a.s.now l.at 0),
+      digit_small (get_or a.s.now l.at 0),
       c.digit-of.ensures,
     )
 
@@ -70,19 +70,19 @@ loop-again c =
     let a = start.args in
     let hex = sym i.is-hex.ensures ∙ i2.if2.true in (
       omega arith,
-      hex-grows l.i l.v c.digit-of.result l.invariant.1
-          (omega (arith, digit-small (get_or a.s.now l.at 0), c.digit-of.ensures)),
+      hex_grows l.i l.v c.digit-of.result l.invariant.1
+          (omega (arith, digit_small (get_or a.s.now l.at 0), c.digit-of.ensures)),
       l.invariant.2
-          ∙ number-hit _ _ _ _ _ turn.loop-test.true i1.if1.false hex c.digit-of.ensures,
+          ∙ number_hit _ _ _ _ _ turn.loop-test.true i1.if1.false hex c.digit-of.ensures,
     )
 
 returns-2 : tie.Need-returns-2 invariant-loop decreases-loop
 returns-2 c =
     let i = c.before in let i1 = i.before.before in let turn = i1.before in let l = turn.before in
-    number-miss _ _ _ _ _ turn.loop-test.true i1.if1.false (sym i.is-hex.ensures ∙ c.if2.false) ∙ sym l.loop.invariant.2
+    number_miss _ _ _ _ _ turn.loop-test.true i1.if1.false (sym i.is-hex.ensures ∙ c.if2.false) ∙ sym l.loop.invariant.2
 
 returns-3 : tie.Need-returns-3 invariant-loop decreases-loop
-returns-3 c = number-over _ _ _ _ _ c.loop-test.false ∙ sym c.before.loop.invariant.2
+returns-3 c = number_over _ _ _ _ _ c.loop-test.false ∙ sym c.before.loop.invariant.2
 
 pub hex-number-spec : {M : Type 1} → statement M
 hex-number-spec =

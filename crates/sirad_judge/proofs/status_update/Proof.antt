@@ -2,7 +2,7 @@
 use borrow.Author.Rules.{rules}
 use mathlib.Core.Path.{sym, ◌∙◌}
 use Rattle.form.proofs.PieceLaws.{go_on, halt}
-use Rattle.sirad.proofs.FrameLaws.{status-form}
+use Rattle.sirad.proofs.FrameLaws.{status_form}
 use Rattle.sirad_judge.proofs.status_update.Statement.{statement}
 use Rattle.sirad_judge.proofs.status_update.Tie as tie
 
@@ -14,7 +14,7 @@ enum-known-a c = search rules
 
 returns : tie.Need-returns
 returns c = halt _ _ _ _ c.before.head_at.ensures c.match.keys2
-    ∙ sym (status-form _ _)
+    ∙ sym (status_form _ _)
 
 hexes-requires : tie.Need-hexes-requires
 hexes-requires c κs = search rules
@@ -27,7 +27,7 @@ returns-2 c =
     let r = c.before in let a = r.before.before in let h = a.before.before in
     halt _ _ _ _ r.hexes.ensures.answers c.match2.keys2
     ∙ sym (go_on _ _ _ _ h.head_at.ensures a.a.given.1)
-    ∙ sym (status-form _ _)
+    ∙ sym (status_form _ _)
 
 stop-requires : tie.Need-stop-requires
 stop-requires c κs = search rules
@@ -39,7 +39,7 @@ returns-3 c =
     c.stop.ensures
     ∙ sym (go_on _ _ _ _ r.hexes.ensures.answers b.b.given.1)
     ∙ sym (go_on _ _ _ _ h.head_at.ensures a.a.given.1)
-    ∙ sym (status-form _ _)
+    ∙ sym (status_form _ _)
 
 pub status-update-spec : {M : Type 1} → statement M
 status-update-spec =

@@ -1,8 +1,8 @@
 -- The two stop bytes, one after the other.
 use borrow.Author.Rules.{rules}
 use mathlib.Core.Path.{sym, ◌∙◌}
-use Rattle.form.proofs.PieceLaws.{go_on, halt, whole-there}
-use Rattle.sirad.proofs.FrameLaws.{stop-form}
+use Rattle.form.proofs.PieceLaws.{go_on, halt, whole_there}
+use Rattle.sirad.proofs.FrameLaws.{stop_form}
 use Rattle.sirad_judge.proofs.stop.Statement.{statement}
 use Rattle.sirad_judge.proofs.stop.Tie as tie
 
@@ -14,7 +14,7 @@ enum-known-a c = search rules
 
 returns : tie.Need-returns
 returns c = halt _ _ _ _ c.before.fixed-at.ensures.answers c.match.keys2
-    ∙ sym (stop-form _ _ _)
+    ∙ sym (stop_form _ _ _)
 
 fixed-at-requires-2 : tie.Need-fixed-at-requires-2
 fixed-at-requires-2 c κs = search rules
@@ -27,15 +27,15 @@ returns-2 c =
     let b2 = c.before in let a = b2.before.before in let b = a.before.before in
     halt _ _ _ _ b2.fixed-at2.ensures.answers c.match2.keys2
     ∙ sym (go_on _ _ _ _ b.fixed-at.ensures.answers a.a.given.1)
-    ∙ sym (stop-form _ _ _)
+    ∙ sym (stop_form _ _ _)
 
 returns-3 : tie.Need-returns-3
 returns-3 c =
     let b = c.before in let b2 = b.before.before in let a = b2.before.before in let o = a.before.before in
-    whole-there _ _ _
+    whole_there _ _ _
     ∙ sym (go_on _ _ _ _ b2.fixed-at2.ensures.answers b.b.given.1)
     ∙ sym (go_on _ _ _ _ o.fixed-at.ensures.answers a.a.given.1)
-    ∙ sym (stop-form _ _ _)
+    ∙ sym (stop_form _ _ _)
 
 pub stop-spec : {M : Type 1} → statement M
 stop-spec =

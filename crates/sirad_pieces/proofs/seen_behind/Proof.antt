@@ -1,6 +1,6 @@
 -- The four runs behind a target's number, and the flag of all.
 use borrow.Author.Rules.{rules}
-use Rattle.sirad.proofs.FrameLaws.{behind-seen}
+use Rattle.sirad.proofs.FrameLaws.{behind_seen}
 use Rattle.sirad_pieces.proofs.seen_behind.Statement.{statement}
 use Rattle.sirad_pieces.proofs.seen_behind.Tie as tie
 
@@ -42,7 +42,7 @@ returns c =
     let b2 = c.before in let b = b2.before in let a4 = b.before in let a3 = a4.before in
     let a2 = a3.before in let o = a2.before in let start = o.before.before in
     let a = start.args in
-    behind-seen a.p a.s.now o.all_of.result a2.all-of2.result a3.all-of3.result a4.all-of4.result b.both.result
+    behind_seen a.p a.s.now o.all_of.result a2.all-of2.result a3.all-of3.result a4.all-of4.result b.both.result
     b2.both2.result c.both3.result o.all_of.ensures a2.all-of2.ensures a3.all-of3.ensures a4.all-of4.ensures
     b.both.ensures b2.both2.ensures c.both3.ensures
 

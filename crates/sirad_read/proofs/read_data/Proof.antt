@@ -1,6 +1,6 @@
 -- Not judged whole, bytes left, kind 0, a kind over 3, or the size.
 use native.Mathlib.Omega.{arith}
-use Rattle.sirad_fields.proofs.ReadingLaws.{halted-kind, other-size, same_size, data-low, data-high, data-made}
+use Rattle.sirad_fields.proofs.ReadingLaws.{halted_kind, other_size, same_size, data_low, data_high, data_made}
 use borrow.Author.Rules.{rules}
 use Rattle.sirad_read.proofs.read_data.Statement.{statement}
 use Rattle.sirad_read.proofs.read_data.Tie as tie
@@ -17,8 +17,8 @@ no-data-requires c κs = search rules
 returns : tie.Need-returns
 returns c =
     let judged = c.before.before in
-    let kind = halted-kind _ judged.judge.ensures.answers c.before.match.keys2 in
-    data-low judged.before.before.args.frame.now kind c.no-data.ensures (omega arith)
+    let kind = halted_kind _ judged.judge.ensures.answers c.before.match.keys2 in
+    data_low judged.before.before.args.frame.now kind c.no-data.ensures (omega arith)
 
 no-data-requires-2 : tie.Need-no-data-requires-2
 no-data-requires-2 c κs = search rules
@@ -27,8 +27,8 @@ returns-2 : tie.Need-returns-2
 returns-2 c =
     let whole = c.before.before.before in
     let judged = whole.before.before in
-    let kind = other-size _ judged.judge.ensures.answers whole.kind.given.1 c.before.if1.true in
-    data-low judged.before.before.args.frame.now kind c.no-data2.ensures (omega arith)
+    let kind = other_size _ judged.judge.ensures.answers whole.kind.given.1 c.before.if1.true in
+    data_low judged.before.before.args.frame.now kind c.no-data2.ensures (omega arith)
 
 no-data-requires-3 : tie.Need-no-data-requires-3
 no-data-requires-3 c κs = search rules
@@ -38,7 +38,7 @@ returns-3 c =
     let whole = c.before.before.before.before in
     let judged = whole.before.before in
     let kind = same_size _ judged.judge.ensures.answers whole.kind.given.1 c.before.before.if1.false in
-    data-low judged.before.before.args.frame.now kind c.no-data3.ensures c.before.if2.true
+    data_low judged.before.before.args.frame.now kind c.no-data3.ensures c.before.if2.true
 
 no-data-requires-4 : tie.Need-no-data-requires-4
 no-data-requires-4 c κs = search rules
@@ -48,7 +48,7 @@ returns-4 c =
     let whole = c.before.before.before.before.before in
     let judged = whole.before.before in
     let kind = same_size _ judged.judge.ensures.answers whole.kind.given.1 c.before.before.before.if1.false in
-    data-high judged.before.before.args.frame.now kind c.no-data4.ensures c.before.if3.true
+    data_high judged.before.before.args.frame.now kind c.no-data4.ensures c.before.if3.true
 
 number-at-requires : tie.Need-number-at-requires
 number-at-requires c κs = tt
@@ -61,7 +61,7 @@ returns-5 c =
     let whole = c.before.before.before.before.before in
     let judged = whole.before.before in
     let kind = same_size _ judged.judge.ensures.answers whole.kind.given.1 c.before.before.before.if1.false in
-    data-made whole.kind.given.0.0 _ judged.before.before.args.frame.now kind (omega arith) (omega arith)
+    data_made whole.kind.given.0.0 _ judged.before.before.args.frame.now kind (omega arith) (omega arith)
     c.number_at.ensures
 
 pub read-data-spec : {M : Type 1} → statement M

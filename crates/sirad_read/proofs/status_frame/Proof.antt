@@ -1,5 +1,5 @@
 -- The accuracy first, which an edition that there is none of refuses; then format, gain and the other numbers at their offsets.
-use Rattle.sirad_fields.proofs.ReadingLaws.{status-unnamed, status-made}
+use Rattle.sirad_fields.proofs.ReadingLaws.{status_unnamed, status_made}
 use borrow.Author.Rules.{rules}
 use Rattle.sirad_read.proofs.status_frame.Statement.{statement}
 use Rattle.sirad_read.proofs.status_frame.Tie as tie
@@ -18,7 +18,7 @@ returns c =
     let millimetres = c.before.before.before in
     let accuracy = millimetres.before in
     let a = accuracy.before.before.args in
-    status-unnamed a.edition a.s.now accuracy.number_at.ensures millimetres.accuracy-to-millimetres.ensures
+    status_unnamed a.edition a.s.now accuracy.number_at.ensures millimetres.accuracy-to-millimetres.ensures
     c.before.if1.true c.no-status.ensures
 
 digit-at-requires : tie.Need-digit-at-requires
@@ -49,7 +49,7 @@ returns-2 c =
     let millimetres = known.before.before in
     let accuracy = millimetres.before in
     let a = accuracy.before.before.args in
-    status-made a.edition a.s.now accuracy.number_at.ensures millimetres.accuracy-to-millimetres.ensures
+    status_made a.edition a.s.now accuracy.number_at.ensures millimetres.accuracy-to-millimetres.ensures
     known.if1.false format.digit_at.ensures range.number-at2.ensures ramp.number-at3.ensures
     bandwidth.number-at4.ensures c.number-at5.ensures
 

@@ -1,5 +1,5 @@
 -- Start, flags and stop, one behind the other.
-use Rattle.sirad_fields.proofs.FrameStores.{error-stored}
+use Rattle.sirad_fields.proofs.FrameStores.{error_stored}
 use borrow.Author.Rules.{rules}
 use Rattle.sirad_write.proofs.put_error.Statement.{statement}
 use Rattle.sirad_write.proofs.put_error.Tie as tie
@@ -22,7 +22,7 @@ returns c =
     let flags = stop.before.before.before.before in
     let head = flags.before.before.before.before in
     let start = head.before.before.before in
-    error-stored start.args.out.now head.put-pair.new.0 flags.put-hex.new.0 stop.put-pair2.new.0 start.args.flags
+    error_stored start.args.out.now head.put-pair.new.0 flags.put-hex.new.0 stop.put-pair2.new.0 start.args.flags
     start.requires head.put-pair.ensures flags.put-hex.ensures stop.put-pair2.ensures
 
 pub put-error-spec : {M : Type 1} → statement M

@@ -1,6 +1,6 @@
 -- Start, format and gain, five numbers and stop, one behind the other.
 use native.Mathlib.Omega.{arith}
-use Rattle.sirad_fields.proofs.FrameStores.{head-stored, status-stored}
+use Rattle.sirad_fields.proofs.FrameStores.{head_stored, status_stored}
 use borrow.Author.Rules.{rules}
 use Rattle.sirad_write.proofs.put_status.Statement.{statement}
 use Rattle.sirad_write.proofs.put_status.Tie as tie
@@ -51,9 +51,9 @@ returns c =
     let l = format.put-pair2.new.0 in
     let room = start.requires in
     let head =
-    head-stored a.out.now marker.put-pair.new.0 l 5 a.format a.gain (omega arith) digit.glyph-of.ensures
+    head_stored a.out.now marker.put-pair.new.0 l 5 a.format a.gain (omega arith) digit.glyph-of.ensures
     marker.put-pair.ensures format.put-pair2.ensures in
-    status-stored a.out.now l accuracy.put-hex.new.0 range.put-hex2.new.0 ramp.put-hex3.new.0
+    status_stored a.out.now l accuracy.put-hex.new.0 range.put-hex2.new.0 ramp.put-hex3.new.0
     bandwidth.put-hex4.new.0 time.put-hex5.new.0 stop.put-pair3.new.0 a.format a.gain a.accuracy a.range
     a.ramp a.bandwidth a.time room head accuracy.put-hex.ensures range.put-hex2.ensures ramp.put-hex3.ensures
     bandwidth.put-hex4.ensures time.put-hex5.ensures stop.put-pair3.ensures

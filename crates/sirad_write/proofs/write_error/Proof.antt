@@ -1,10 +1,10 @@
 -- Refused, or put: by the room alone.
 use mathlib.Core.Path.{sym}
 use native.Mathlib.Omega.{arith}
-use Rattle.sirad_fields.specs.Fields.{errorRefusal, errorBytes}
-use Rattle.digits.proofs.RefusalLaws.{none-refused, all-written, refused-written}
-use Rattle.sirad_fields.proofs.FrameStores.{error-size}
-use Rattle.sirad_fields.proofs.WritingLaws.{error-fits}
+use Rattle.sirad_fields.specs.Fields.{error_refusal, error_bytes}
+use Rattle.digits.proofs.RefusalLaws.{none_refused, all_written, refused_written}
+use Rattle.sirad_fields.proofs.FrameStores.{error_size}
+use Rattle.sirad_fields.proofs.WritingLaws.{error_fits}
 use borrow.Author.Rules.{rules}
 use Rattle.sirad_write.proofs.write_error.Statement.{statement}
 use Rattle.sirad_write.proofs.write_error.Tie as tie
@@ -15,16 +15,16 @@ refusal-of-requires c κs = tt
 returns : tie.Need-returns
 returns c =
     let a = c.before.before.before.args in
-    let fits = sym (error-fits a.flags (omega arith)) in
-    refused-written (errorRefusal a.flags) (errorBytes a.flags) a.out.now 8 (error-size a.flags) fits
+    let fits = sym (error_fits a.flags (omega arith)) in
+    refused_written (error_refusal a.flags) (error_bytes a.flags) a.out.now 8 (error_size a.flags) fits
     c.before.refusal-of.ensures c.if1.true
 
 put-error-requires : tie.Need-put-error-requires
 put-error-requires c κs =
     let refusal = c.before.before in
     let a = refusal.before.before.args in
-    let fits = sym (error-fits a.flags (omega arith)) in
-    (none-refused (errorRefusal a.flags) (errorBytes a.flags) a.out.now 8 (error-size a.flags) fits
+    let fits = sym (error_fits a.flags (omega arith)) in
+    (none_refused (error_refusal a.flags) (error_bytes a.flags) a.out.now 8 (error_size a.flags) fits
     refusal.refusal-of.ensures c.before.if1.false).1
 
 same_length : tie.Need-same-length
@@ -35,8 +35,8 @@ returns-2 c =
     let put = c.before.before in
     let test = put.before.before in
     let a = test.before.before.before.args in
-    let fits = sym (error-fits a.flags (omega arith)) in
-    all-written (errorRefusal a.flags) (errorBytes a.flags) a.out.now 8 (error-size a.flags) fits
+    let fits = sym (error_fits a.flags (omega arith)) in
+    all_written (error_refusal a.flags) (error_bytes a.flags) a.out.now 8 (error_size a.flags) fits
     test.before.refusal-of.ensures test.if1.false put.put-error.ensures
 
 pub write-error-spec : {M : Type 1} → statement M

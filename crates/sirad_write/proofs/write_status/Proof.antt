@@ -1,10 +1,10 @@
 -- Refused, or put: by the refusal of format and gain, and the room.
 use mathlib.Core.Path.{sym, ap, ◌∙◌}
 use native.Mathlib.Omega.{arith}
-use Rattle.sirad_fields.specs.Fields.{unencoded, statusNumbers, statusRefusal, statusBytes}
-use Rattle.digits.proofs.RefusalLaws.{none-refused, all-written, refused-written}
-use Rattle.sirad_fields.proofs.FrameStores.{status-size}
-use Rattle.sirad_fields.proofs.WritingLaws.{status-fit}
+use Rattle.sirad_fields.specs.Fields.{unencoded, status_numbers, status_refusal, status_bytes}
+use Rattle.digits.proofs.RefusalLaws.{none_refused, all_written, refused_written}
+use Rattle.sirad_fields.proofs.FrameStores.{status_size}
+use Rattle.sirad_fields.proofs.WritingLaws.{status_fit}
 use borrow.Author.Rules.{rules}
 use Rattle.sirad_write.proofs.write_status.Statement.{statement}
 use Rattle.sirad_write.proofs.write_status.Tie as tie
@@ -20,11 +20,11 @@ returns c =
     let refusal = c.before in
     let unfit = refusal.before in
     let a = unfit.before.before.args in
-    let vs = statusNumbers a.format a.gain a.accuracy a.range a.ramp a.bandwidth a.time in
-    let five = status-fit a.format a.gain a.accuracy a.range a.ramp a.bandwidth a.time in
+    let vs = status_numbers a.format a.gain a.accuracy a.range a.ramp a.bandwidth a.time in
+    let five = status_fit a.format a.gain a.accuracy a.range a.ramp a.bandwidth a.time in
     let fits = five (omega arith) (omega arith) (omega arith) (omega arith) (omega arith) in
     let values = unfit.status-refusal.ensures ∙ ap unencoded (sym fits) in
-    refused-written (statusRefusal vs) (statusBytes vs) a.out.now 26 (status-size vs) values
+    refused_written (status_refusal vs) (status_bytes vs) a.out.now 26 (status_size vs) values
     refusal.refusal-of.ensures c.if1.true
 
 put-status-requires : tie.Need-put-status-requires
@@ -32,11 +32,11 @@ put-status-requires c κs =
     let refusal = c.before.before in
     let unfit = refusal.before in
     let a = unfit.before.before.args in
-    let vs = statusNumbers a.format a.gain a.accuracy a.range a.ramp a.bandwidth a.time in
-    let five = status-fit a.format a.gain a.accuracy a.range a.ramp a.bandwidth a.time in
+    let vs = status_numbers a.format a.gain a.accuracy a.range a.ramp a.bandwidth a.time in
+    let five = status_fit a.format a.gain a.accuracy a.range a.ramp a.bandwidth a.time in
     let fits = five (omega arith) (omega arith) (omega arith) (omega arith) (omega arith) in
     let values = unfit.status-refusal.ensures ∙ ap unencoded (sym fits) in
-    (none-refused (statusRefusal vs) (statusBytes vs) a.out.now 26 (status-size vs) values refusal.refusal-of.ensures
+    (none_refused (status_refusal vs) (status_bytes vs) a.out.now 26 (status_size vs) values refusal.refusal-of.ensures
     c.before.if1.false).1
 
 same_length : tie.Need-same-length
@@ -49,11 +49,11 @@ returns-2 c =
     let refusal = test.before in
     let unfit = refusal.before in
     let a = unfit.before.before.args in
-    let vs = statusNumbers a.format a.gain a.accuracy a.range a.ramp a.bandwidth a.time in
-    let five = status-fit a.format a.gain a.accuracy a.range a.ramp a.bandwidth a.time in
+    let vs = status_numbers a.format a.gain a.accuracy a.range a.ramp a.bandwidth a.time in
+    let five = status_fit a.format a.gain a.accuracy a.range a.ramp a.bandwidth a.time in
     let fits = five (omega arith) (omega arith) (omega arith) (omega arith) (omega arith) in
     let values = unfit.status-refusal.ensures ∙ ap unencoded (sym fits) in
-    all-written (statusRefusal vs) (statusBytes vs) a.out.now 26 (status-size vs) values
+    all_written (status_refusal vs) (status_bytes vs) a.out.now 26 (status_size vs) values
     refusal.refusal-of.ensures test.if1.false put.put-status.ensures
 
 pub write-status-spec : {M : Type 1} → statement M

@@ -6,12 +6,12 @@ use native.Mathlib.Nat.{sub-zero}
 use lib.ListN.{length}
 use Rattle.sirad.specs.Rows.{characters}
 use Rattle.sirad_fields.specs.Values.{fit}
-use Rattle.sirad_fields.proofs.WritingLaws.{leftCharacters, characters-next, characters-fail, characters-over}
+use Rattle.sirad_fields.proofs.WritingLaws.{left_characters, characters_next, characters_fail, characters_over}
 use Rattle.sirad_write_data.proofs.all_characters.Statement.{statement}
 use Rattle.sirad_write_data.proofs.all_characters.Tie as tie
 
 abbrev invariant-loop : tie.invariant-loop
-invariant-loop content i₀ i = (i ≤ length content) × (leftCharacters content i ≡ fit (characters (length content)) content)
+invariant-loop content i₀ i = (i ≤ length content) × (left_characters content i ≡ fit (characters (length content)) content)
 
 abbrev decreases-loop : tie.decreases-loop
 decreases-loop content i₀ i = length content - i
@@ -36,7 +36,7 @@ loop-again c =
     let test = c.before.before.before in
     let l = test.before.loop in
     let cs = test.before.before.before.args.content.now in
-    let next = characters-next cs l.i test.loop-test.true c.before.is-character.ensures c.if1.true in
+    let next = characters_next cs l.i test.loop-test.true c.before.is-character.ensures c.if1.true in
     (omega arith, sym next ∙ l.invariant.1)
 
 returns : tie.Need-returns invariant-loop decreases-loop
@@ -44,13 +44,13 @@ returns c =
     let test = c.before.before.before in
     let l = test.before.loop in
     let cs = test.before.before.before.args.content.now in
-    sym (characters-fail cs l.i test.loop-test.true c.before.is-character.ensures c.if1.false) ∙ l.invariant.1
+    sym (characters_fail cs l.i test.loop-test.true c.before.is-character.ensures c.if1.false) ∙ l.invariant.1
 
 returns-2 : tie.Need-returns-2 invariant-loop decreases-loop
 returns-2 c =
     let l = c.before.loop in
     let a = c.before.before.before.args in
-    sym (characters-over a.content.now l.i c.loop-test.false) ∙ l.invariant.1
+    sym (characters_over a.content.now l.i c.loop-test.false) ∙ l.invariant.1
 
 pub all-characters-spec : {M : Type 1} → statement M
 all-characters-spec =

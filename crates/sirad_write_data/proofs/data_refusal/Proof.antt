@@ -1,15 +1,15 @@
 -- Each return is one law: 53 twice, 52, nothing, 50.
 use native.Mathlib.Omega.{arith}
-use Rattle.sirad_fields.proofs.WritingLaws.{kind-low, kind-high, too_many, data-accepted, data-unencoded}
+use Rattle.sirad_fields.proofs.WritingLaws.{kind_low, kind_high, too_many, data_accepted, data_unencoded}
 use borrow.Author.Rules.{rules}
 use Rattle.sirad_write_data.proofs.data_refusal.Statement.{statement}
 use Rattle.sirad_write_data.proofs.data_refusal.Tie as tie
 
 returns : tie.Need-returns
-returns c = kind-low _ _ c.if1.true
+returns c = kind_low _ _ c.if1.true
 
 returns-2 : tie.Need-returns-2
-returns-2 c = kind-high _ _ c.if2.true
+returns-2 c = kind_high _ _ c.if2.true
 
 returns-3 : tie.Need-returns-3
 returns-3 c = too_many _ _ (omega arith) (omega arith) c.if3.true
@@ -19,11 +19,11 @@ all-characters-requires c κs = search rules
 
 returns-4 : tie.Need-returns-4
 returns-4 c =
-    data-accepted _ _ (omega arith) (omega arith) (omega arith) c.before.all-characters.ensures c.if4.true
+    data_accepted _ _ (omega arith) (omega arith) (omega arith) c.before.all-characters.ensures c.if4.true
 
 returns-5 : tie.Need-returns-5
 returns-5 c =
-    data-unencoded _ _ (omega arith) (omega arith) (omega arith) c.before.all-characters.ensures c.if4.false
+    data_unencoded _ _ (omega arith) (omega arith) (omega arith) c.before.all-characters.ensures c.if4.false
 
 pub data-refusal-spec : {M : Type 1} → statement M
 data-refusal-spec =

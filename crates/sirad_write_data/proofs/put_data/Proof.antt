@@ -1,5 +1,5 @@
 -- Start, size, reserved bytes, characters and stop, one behind the other.
-use Rattle.sirad_fields.proofs.FrameStores.{data-stored}
+use Rattle.sirad_fields.proofs.FrameStores.{data_stored}
 use borrow.Author.Rules.{rules}
 use Rattle.sirad_write_data.proofs.put_data.Statement.{statement}
 use Rattle.sirad_write_data.proofs.put_data.Tie as tie
@@ -41,7 +41,7 @@ returns c =
     let letter = head.before.before in
     let start = letter.before.before.before in
     let a = start.args in
-    data-stored a.out.now head.put-pair.new.0 size.put-hex.new.0 reserved.put-run.new.0
+    data_stored a.out.now head.put-pair.new.0 size.put-hex.new.0 reserved.put-run.new.0
     characters.put-bytes.new.0 stop.put-pair2.new.0 a.kind a.content.now start.requires.1
     letter.identifier-of.ensures head.put-pair.ensures
     size.put-hex.ensures reserved.put-run.ensures characters.put-bytes.ensures stop.put-pair2.ensures

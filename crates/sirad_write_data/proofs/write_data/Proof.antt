@@ -1,10 +1,10 @@
 -- Refused, or put: by the refusal of the values and the room.
 use Prim.Native.Nat.{◌+◌}
 use lib.ListN.{length}
-use Rattle.sirad_fields.specs.Fields.{dataRefusal, dataBytes}
-use Rattle.digits.proofs.RefusalLaws.{none-refused, all-written, refused-written}
-use Rattle.sirad_fields.proofs.RoundTrips.{data-fits}
-use Rattle.sirad_fields.proofs.FrameStores.{data-size}
+use Rattle.sirad_fields.specs.Fields.{data_refusal, data_bytes}
+use Rattle.digits.proofs.RefusalLaws.{none_refused, all_written, refused_written}
+use Rattle.sirad_fields.proofs.RoundTrips.{data_fits}
+use Rattle.sirad_fields.proofs.FrameStores.{data_size}
 use borrow.Author.Rules.{rules}
 use Rattle.sirad_write_data.proofs.write_data.Statement.{statement}
 use Rattle.sirad_write_data.proofs.write_data.Tie as tie
@@ -24,7 +24,7 @@ returns c =
     let unfit = refusal.before in
     let a = unfit.before.before.before.args in
     let cs = a.content.now in
-    refused-written (dataRefusal a.kind cs) (dataBytes a.kind cs) a.out.now (16 + length cs) (data-size a.kind cs)
+    refused_written (data_refusal a.kind cs) (data_bytes a.kind cs) a.out.now (16 + length cs) (data_size a.kind cs)
     unfit.data-refusal.ensures refusal.refusal-of.ensures c.if1.true
 
 put-data-requires : tie.Need-put-data-requires
@@ -34,9 +34,9 @@ put-data-requires c κs =
     let a = unfit.before.before.before.args in
     let cs = a.content.now in
     let none =
-    none-refused (dataRefusal a.kind cs) (dataBytes a.kind cs) a.out.now (16 + length cs) (data-size a.kind cs)
+    none_refused (data_refusal a.kind cs) (data_bytes a.kind cs) a.out.now (16 + length cs) (data_size a.kind cs)
     unfit.data-refusal.ensures refusal.refusal-of.ensures c.before.if1.false in
-    ((data-fits a.kind cs none.0).count, none.1)
+    ((data_fits a.kind cs none.0).count, none.1)
 
 same_length : tie.Need-same-length
 same_length c = search rules
@@ -49,7 +49,7 @@ returns-2 c =
     let unfit = refusal.before in
     let a = unfit.before.before.before.args in
     let cs = a.content.now in
-    all-written (dataRefusal a.kind cs) (dataBytes a.kind cs) a.out.now (16 + length cs) (data-size a.kind cs)
+    all_written (data_refusal a.kind cs) (data_bytes a.kind cs) a.out.now (16 + length cs) (data_size a.kind cs)
     unfit.data-refusal.ensures refusal.refusal-of.ensures test.if1.false put.put-data.ensures
 
 pub write-data-spec : {M : Type 1} → statement M

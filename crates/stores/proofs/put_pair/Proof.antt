@@ -2,20 +2,20 @@
 use mathlib.Core.Path.{sym}
 use native.Mathlib.Omega.{arith}
 use lib.ListN.{length-set}
-use Rattle.digits.proofs.StoreLaws.{within-unfit}
-use Rattle.digits.proofs.StoreSteps.{two-stores}
+use Rattle.digits.proofs.StoreLaws.{within_unfit}
+use Rattle.digits.proofs.StoreSteps.{two_stores}
 use borrow.Author.Rules.{rules}
 use Rattle.stores.proofs.put_pair.Statement.{statement}
 use Rattle.stores.proofs.put_pair.Tie as tie
 
 returns : tie.Need-returns
-returns c = let a = c.before.args in sym (within-unfit a.out.now a.at _ (omega arith))
+returns c = let a = c.before.args in sym (within_unfit a.out.now a.at _ (omega arith))
 
 sub-if2 : tie.Need-overflow-sub-if2
 sub-if2 c = search rules
 
 returns-2 : tie.Need-returns-2
-returns-2 c = let a = c.before.before.args in sym (within-unfit a.out.now a.at _ (omega arith))
+returns-2 c = let a = c.before.before.args in sym (within_unfit a.out.now a.at _ (omega arith))
 
 slice-write-out : tie.Need-slice-write-out
 slice-write-out c = search rules
@@ -30,7 +30,7 @@ same_length : tie.Need-same-length
 same_length c = search rules
 
 returns-3 : tie.Need-returns-3
-returns-3 c = let a = c.before.before.args in two-stores a.out.now a.at a.a a.b (omega arith)
+returns-3 c = let a = c.before.before.args in two_stores a.out.now a.at a.a a.b (omega arith)
 
 pub put-pair-spec : {M : Type 1} → statement M
 put-pair-spec =

@@ -4,7 +4,7 @@ use Prim.Native.Nat.{◌+◌, ◌-◌, ◌≤◌}
 use native.Mathlib.Omega.{arith}
 use lib.ListN.{length, drop, replicate, length-set}
 use Rattle.digits.specs.Stores.{stored}
-use Rattle.digits.proofs.StoreSteps.{store-start, run-next, run_end, run_fits, run-unfit}
+use Rattle.digits.proofs.StoreSteps.{store_start, run_next, run_end, run_fits, run_unfit}
 use Rattle.stores.proofs.put_run.Statement.{statement}
 use Rattle.stores.proofs.put_run.Tie as tie
 
@@ -16,18 +16,18 @@ abbrev decreases-loop : tie.decreases-loop
 decreases-loop out₀ at n b i₀ out i = n - i
 
 returns : tie.Need-returns invariant-loop decreases-loop
-returns c = let a = c.before.args in sym (run-unfit a.out.now a.at a.n a.b (omega arith))
+returns c = let a = c.before.args in sym (run_unfit a.out.now a.at a.n a.b (omega arith))
 
 sub-if2 : tie.Need-overflow-sub-if2 invariant-loop decreases-loop
 sub-if2 c = omega arith
 
 returns-2 : tie.Need-returns-2 invariant-loop decreases-loop
-returns-2 c = let a = c.before.before.args in sym (run-unfit a.out.now a.at a.n a.b (omega arith))
+returns-2 c = let a = c.before.before.args in sym (run_unfit a.out.now a.at a.n a.b (omega arith))
 
 loop-holds : tie.Need-loop-init invariant-loop decreases-loop
 loop-holds c =
     let a = c.before.before.args in
-    (omega arith, refl, store-start a.out.now (replicate a.n a.b) a.at)
+    (omega arith, refl, store_start a.out.now (replicate a.n a.b) a.at)
 
 add-out : tie.Need-overflow-add-out invariant-loop decreases-loop
 add-out c = omega arith
@@ -46,7 +46,7 @@ loop-again c =
     let lp = c.before in
     let a = lp.before.before.before.args in
     let l = lp.loop in
-    let next = run-next l.out a.at a.n a.b l.i c.loop-test.true in
+    let next = run_next l.out a.at a.n a.b l.i c.loop-test.true in
     (omega arith, simp length-set l.invariant.1, sym next ∙ l.invariant.2)
 
 same_length : tie.Need-same-length invariant-loop decreases-loop

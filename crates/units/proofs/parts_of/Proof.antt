@@ -1,7 +1,7 @@
 -- `units::parts_of` meets its contract: no part is lost in the shift.
 use Rattle.std.proofs.Common.{lt_trans, mod-eq_of_lt, lit<, rules}
 use Rattle.units.specs.Internal.{parts}
-use Rattle.units.proofs.Machine.{parts-less}
+use Rattle.units.proofs.Machine.{parts_less}
 use Rattle.units.proofs.parts_of.Statement.{statement}
 use Rattle.units.proofs.parts_of.Tie as tie
 
@@ -22,7 +22,7 @@ shl-result c = search rules
 
 returns : tie.Need-returns
 unfolding parts
-returns c = mod-eq_of_lt (lt_trans (parts-less c.args.bits c.args.over c.requires) (lit< tt))
+returns c = mod-eq_of_lt (lt_trans (parts_less c.args.bits c.args.over c.requires) (lit< tt))
 
 pub parts-of-spec : {M : Type 1} → statement M
 parts-of-spec = tie.close (tie.spec add-significand cast-result mul-result cast-result-2 shl-result returns)

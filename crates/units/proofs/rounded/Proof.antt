@@ -1,8 +1,8 @@
 -- `units::rounded` meets its contract: the division is the closed form of the nearest whole number.
 use Rattle.std.proofs.Common.{◌/◌, refl, arith, rules}
 use Rattle.units.specs.Rounding.{nearest}
-use Rattle.units.specs.Units.{tiesOf}
-use Rattle.units.proofs.Rounding.{half-most}
+use Rattle.units.specs.Units.{ties_of}
+use Rattle.units.proofs.Rounding.{half_most}
 use Rattle.units.proofs.rounded.Statement.{statement}
 use Rattle.units.proofs.rounded.Tie as tie
 
@@ -24,7 +24,7 @@ half-up-requires c κs = search rules
 add-result-2 : tie.Need-overflow-add-result-2
 add-result-2 c =
     let a = c.before.args in
-    record { fits = omega (arith, c.half_up.ensures, half-most (tiesOf a.edition) (a.n / a.d), c.before.requires) }
+    record { fits = omega (arith, c.half_up.ensures, half_most (ties_of a.edition) (a.n / a.d), c.before.requires) }
 
 mul-result-2 : tie.Need-overflow-mul-result-2
 mul-result-2 c = search rules
