@@ -1,6 +1,8 @@
 // Splits each capture of standard input at each of its offsets into two lines, and prints which part is chosen: of the standby line (1) or
 // the main line (0), its offset and size, and the length and checksum of the line that is lent. A capture is its dialect, its length (two
 // bytes, least significant first) and its bytes. (The host's tests ask the C face for judgements and readings of the same captures.)
+#![tactic(auto)]
+
 use capture::Part;
 use capture_lines::{choose_line, choose_part};
 use libc::{STDIN_FILENO, STDOUT_FILENO};

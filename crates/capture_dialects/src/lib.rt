@@ -1,4 +1,5 @@
 // The dialects by their numbers, and the byte that starts their frames (paper 01, "Judging a place"; paper 02, (i)).
+#![tactic(auto)]
 
 ghost use Rattle.std.specs.Prelude.{◌≡◌};
 ghost use Rattle.capture.specs.Dialects.{dialect_of, packet_number, dialect_number, start_of};

@@ -1,4 +1,5 @@
 // The judgement at an offset, by a dialect's number (paper 01, "Judging a place"; paper 02, (i)). The dialects are handed on for callers.
+#![tactic(auto)]
 
 ghost use Rattle.std.specs.Prelude.{◌≡◌, ◌+◌, ltb, drop};
 ghost use Rattle.capture.specs.Dialects.{form_of, judge_of};

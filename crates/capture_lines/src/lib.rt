@@ -1,4 +1,5 @@
 // The choice between two lines (paper 01, "Two lines").
+#![tactic(auto)]
 
 ghost use Rattle.std.specs.Prelude.{◌≡◌, true, false, cond, ◌+◌, ◌≤◌, ◌<◌, length};
 ghost use Rattle.capture.specs.Dialects.{dialect_of};

@@ -1,4 +1,5 @@
 // The next start byte: what a reading may pass without a judgement. Nothing here is a rule of the papers.
+#![tactic(auto)]
 
 ghost use Rattle.std.specs.Prelude.{◌≡◌, ◌+◌, ◌≤◌, ◌<◌, length, get_or};
 ghost use Rattle.capture.specs.Internal.{Clear, clear_for, next_mark, starts_again};

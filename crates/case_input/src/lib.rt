@@ -1,4 +1,6 @@
 // The input of the programs that run cases: slices one after another, each behind its length in four bytes, least significant first.
+#![tactic(auto)]
+
 ghost use Rattle.std.specs.Prelude.{◌≡◌};
 ghost use Rattle.case_input.specs.Cases.{case_end, case_at};
 

@@ -1,5 +1,7 @@
 // What characters mean, in dB and as a phase (paper 01, "Numbers"; paper 02, (v)); the definitions are in `units`.
 // A phase is worked out half a turn on, so that nothing is negative before the last step.
+#![tactic(auto)]
+
 ghost use Rattle.std.specs.Prelude.{◌≡◌};
 ghost use Rattle.units.specs.Units.{refused, decibels, centidegrees};
 

@@ -1,4 +1,6 @@
 // The bound of a distance: which floats in metres are within it, by their bits alone (paper 02, (vi)).
+#![tactic(auto)]
+
 ghost use Rattle.std.specs.Prelude.{◌≡◌, ◌^◌, ◌<◌};
 ghost use Rattle.units.specs.Units.{millimetres};
 ghost use Rattle.coordinate_bounds.specs.Bounds.{is_within, sign_last, Bounds, Greatest};

@@ -1,5 +1,6 @@
 // DemoRad commands (paper 01, "DemoRad"; document 001): what a command is, and which are legal.
 // `demorad_read` reads them, `demorad_write` writes them.
+#![tactic(auto)]
 
 ghost use Rattle.std.specs.Prelude.{◌≡◌, length};
 ghost use Rattle.demorad.specs.Rules.{counts, selects, unlisted, rule_of, legality, max_payload};

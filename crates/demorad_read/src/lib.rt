@@ -1,4 +1,5 @@
 // Reads DemoRad commands (paper 01, "DemoRad"; document 001, section 2.1.1).
+#![tactic(auto)]
 
 ghost use Rattle.std.specs.Prelude.{◌≡◌, ◌+◌, ◌*◌, ◌≤◌, length, drop};
 ghost use Rattle.demorad.specs.Rules.{max_payload};

@@ -1,4 +1,5 @@
 // Writes DemoRad commands (paper 01, "DemoRad"; document 001, section 2.1.1).
+#![tactic(auto)]
 
 ghost use Rattle.std.specs.Prelude.{◌≡◌, ◌+◌, ◌*◌, ◌<◌, ◌≤◌, length, take};
 ghost use Rattle.digits.specs.Stores.{Writes, stored};

@@ -1,5 +1,6 @@
 // Classes of bytes, and single hex digits both ways. The definitions of numbers as bytes and of stores stand here too, with their laws;
 // `hex_numbers`, `numbers` and `stores` have the code.
+#![tactic(auto)]
 
 ghost use Rattle.std.specs.Prelude.{◌≡◌, ◌&&◌, ◌||◌, ◌%◌};
 ghost use Rattle.digits.specs.Bytes.{within, is_hex, is_character};

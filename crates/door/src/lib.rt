@@ -1,5 +1,6 @@
 // The door controller's C face, a library apart from the others: with one caller in it the judgement is compiled into the search's loop.
 // A slice is a pointer that is not null and a count; a struct crosses by value.
+#![tactic(auto)]
 
 ghost use Rattle.std.specs.Prelude.{◌≡◌};
 ghost use Rattle.proximity.specs.Proximity.{closeness};

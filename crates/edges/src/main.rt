@@ -1,5 +1,7 @@
 // Prints the number values of paper 01, "Values at the edges", and of paper 02, (iv), the documents' worked examples, and then every byte
 // as a character and floats of every exponent by each edition. A line has tabs between its fields.
+#![tactic(auto)]
+
 ghost use Rattle.std.specs.Prelude.{◌≤◌, ◌<◌};
 
 use units::{Accuracy, Quantity};

@@ -1,5 +1,6 @@
 // The feeder's C face, a library of its own: with one caller in it the judgement is compiled into the feeder's loop.
 // A slice is a pointer that is not null and a count; a struct crosses by value.
+#![tactic(auto)]
 
 ghost use Rattle.capture.specs.Feeding.{Feeds};
 

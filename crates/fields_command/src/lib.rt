@@ -1,5 +1,6 @@
 // The C face of DemoRad commands: the reader and the writer under names for C, with RD as a number.
 // A slice is a pointer that is not null and a count; a struct crosses by value.
+#![tactic(auto)]
 
 ghost use Rattle.std.specs.Prelude.{◌≡◌};
 ghost use Rattle.digits.specs.Stores.{Writes};

@@ -1,5 +1,6 @@
 // The C face of a packet's fields: the readers of `packet_header`, `packet_fields` and `packet_points` under names for C, each with its
 // own promise. A slice is a pointer that is not null and a count; a struct crosses by value.
+#![tactic(auto)]
 
 ghost use Rattle.std.specs.Prelude.{◌≡◌};
 ghost use Rattle.packet.specs.Fields.{header_of, RecordShown, StepShown, point_of};

@@ -1,5 +1,6 @@
 // The C face of the SiRad frames' readers: those of `sirad_read` and `sirad_read_targets` under names for C, each with its own promise.
 // A slice is a pointer that is not null and a count; a struct crosses by value.
+#![tactic(auto)]
 
 ghost use Rattle.std.specs.Prelude.{◌≡◌};
 ghost use Rattle.sirad_fields.specs.Fields.{read_data, read_targets, read_status, read_error};

@@ -1,5 +1,6 @@
 // The C face of the SiRad frames' writers: those of `sirad_write_data`, `sirad_write` and `sirad_targets` under names for C, each with its
 // own promise. A slice is a pointer that is not null and a count; a struct crosses by value.
+#![tactic(auto)]
 
 ghost use Rattle.digits.specs.Stores.{Writes};
 ghost use Rattle.sirad_fields.specs.Fields.{data_refusal, data_bytes, targets_refusal, targets_bytes};

@@ -1,4 +1,6 @@
 // The judgement of bytes by a grammar, and the pieces that every wire's judgement is made of.
+#![tactic(auto)]
+
 ghost use Rattle.std.specs.Prelude.{◌≡◌};
 ghost use Rattle.form.specs.Numbers.{numbers_of, Judges};
 ghost use Rattle.form.specs.Pieces.{any, always, four, free, frees};

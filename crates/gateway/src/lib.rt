@@ -1,5 +1,6 @@
 // The C face: what a host in C calls (paper 01, "written in C, calls the judgement and the millimetre rule"; paper 02, (v): the phase).
 // A slice is a pointer that is not null and a count; the numbers of each answer are those of paper 01.
+#![tactic(auto)]
 
 ghost use Rattle.std.specs.Prelude.{◌≡◌};
 ghost use Rattle.capture.specs.Dialects.{dialect_of};

@@ -1,4 +1,6 @@
 // Hex numbers in bytes, both ways.
+#![tactic(auto)]
+
 ghost use Rattle.std.specs.Prelude.{◌≡◌, ◌+◌, ◌≤◌, min, length};
 ghost use Rattle.digits.specs.Hex.{hex_at, hex_digits};
 ghost use Rattle.digits.specs.Stores.{stored_within};

@@ -1,5 +1,7 @@
 // Reads slices from standard input, each behind its length in four bytes, and prints of each its length and the judgements of the three
 // dialects.
+#![tactic(auto)]
+
 use case_input::{case_at, case_end};
 use form::Judgement;
 use libc::{STDIN_FILENO, STDOUT_FILENO};

@@ -1,4 +1,5 @@
 // Standard input gathered in blocks (paper 01, "The listing").
+#![tactic(auto)]
 
 ghost use Rattle.std.specs.Prelude.{◌≡◌, ◌+◌, ◌≤◌, ◌<◌, length};
 ghost use Rattle.listing.specs.Gather.{Gathers};

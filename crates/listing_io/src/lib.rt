@@ -1,4 +1,5 @@
 // The listing of standard input on standard output (paper 01, "The listing").
+#![tactic(auto)]
 
 ghost use Rattle.std.specs.Prelude.{◌≡◌, ◌+◌, ◌≤◌, ◌<◌, length};
 ghost use Rattle.listing.specs.Gather.{Lent};

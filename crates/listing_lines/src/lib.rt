@@ -1,4 +1,5 @@
 // A line of a listing: a word and two numbers, measured and put (paper 01, "The listing").
+#![tactic(auto)]
 
 ghost use Rattle.std.specs.Prelude.{◌≡◌, [], ◌∷◌, ◌++◌, ◌+◌, ◌≤◌, ◌<◌, length};
 ghost use Rattle.listing.specs.Decimal.{decimal, width};

@@ -1,4 +1,5 @@
 // The text of a table of rows: measured, and put (paper 01, "The listing").
+#![tactic(auto)]
 
 ghost use Rattle.std.specs.Prelude.{◌≡◌, ◌+◌, ◌*◌, ◌≤◌, ◌<◌, length, drop};
 ghost use Rattle.digits.specs.Stores.{Writes};

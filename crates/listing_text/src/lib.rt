@@ -1,4 +1,5 @@
 // The text that a listing program prints (paper 01, "The listing").
+#![tactic(auto)]
 
 ghost use Rattle.std.specs.Prelude.{◌≡◌, ◌≤◌, ◌<◌, length};
 ghost use Rattle.digits.specs.Stores.{Writes};

@@ -1,4 +1,5 @@
 // Packets (paper 01, "mmWave", document 004; paper 02, (i), document 002): their types, definitions and laws.
+#![tactic(auto)]
 
 // The packet dialects.
 #[derive(Drop)]

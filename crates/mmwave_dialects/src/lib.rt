@@ -1,4 +1,6 @@
 // What a dialect of packets fixes: its kind, the object count, the subframe, the padding (paper 01, "mmWave"; paper 02, (i)).
+#![tactic(auto)]
+
 ghost use Rattle.std.specs.Prelude.{◌≡◌};
 ghost use Rattle.mmwave.specs.Dialects.{profile_of};
 

@@ -1,5 +1,7 @@
 // The tests of a packet's total length and record count (paper 01, "mmWave", document 004; paper 02, (i), document 002). Where the
 // dialects differ, a function matches on them; what they share is said once.
+#![tactic(auto)]
+
 ghost use Rattle.std.specs.Prelude.{◌≡◌};
 ghost use Rattle.mmwave.specs.Profile.{count_ok};
 ghost use Rattle.mmwave.specs.MmWave.{total_legal};

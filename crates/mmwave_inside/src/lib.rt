@@ -1,5 +1,7 @@
 // The judgement of a packet's records behind its header, and its quick way: where the bytes are all there, no field tests their length
 // (paper 01, "mmWave"; paper 02, (i) and (vii)).
+#![tactic(auto)]
+
 ghost use Rattle.std.specs.Prelude.{◌≡◌, cond, ◌+◌, ◌*◌, ◌^◌, ◌≤◌, ◌<◌, length};
 ghost use Rattle.digits.specs.LittleEndian.{little_at};
 ghost use Rattle.form.specs.Numbers.{Judges};

@@ -1,4 +1,6 @@
 // The judgement of a packet: its header at once where it is there, else piece by piece (paper 01, "mmWave"; paper 02, (i)).
+#![tactic(auto)]
+
 ghost use Rattle.std.specs.Prelude.{◌≡◌, true, false, ◌+◌, ◌-◌, ◌*◌, ◌≤◌, length, take};
 ghost use Rattle.digits.specs.LittleEndian.{little_at};
 ghost use Rattle.form.specs.Form.{judge as Form·judge, judge_at};

@@ -1,5 +1,7 @@
 // The tests of a record's type and payload length by the rule of the type; how a length fits is said once (paper 01, "mmWave"; paper 02,
 // (i)).
+#![tactic(auto)]
+
 ghost use Rattle.std.specs.Prelude.{◌≡◌, ◌%◌};
 ghost use Rattle.mmwave.specs.Profile.{unit_of, legal, fits, possible, length_ok};
 ghost use Rattle.mmwave.specs.Dialects.{profile_of};

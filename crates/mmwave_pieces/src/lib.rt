@@ -1,4 +1,6 @@
 // A packet judged piece by piece in byte order, which fits any number of bytes (paper 01, "mmWave" and "Judging a place"; paper 02, (i)).
+#![tactic(auto)]
+
 ghost use Rattle.std.specs.Prelude.{◌≡◌};
 ghost use Rattle.form.specs.Form.{judge_at};
 ghost use Rattle.form.specs.Numbers.{Judges};

@@ -1,5 +1,7 @@
 // The records of a packet and its padding, judged piece by piece in byte order (paper 01, "mmWave" and "Judging a place"; paper 02, (i) and
 // (vii)).
+#![tactic(auto)]
+
 ghost use Rattle.std.specs.Prelude.{◌≡◌};
 ghost use Rattle.form.specs.Form.{judge_at};
 ghost use Rattle.form.specs.Numbers.{Judges};

@@ -1,5 +1,7 @@
 // What a record's type says, by the dialect: the payload lengths, and which types exclude one another (paper 01, "mmWave", document 004;
 // paper 02, (i), document 002, and (vii)).
+#![tactic(auto)]
+
 ghost use Rattle.std.specs.Prelude.{◌≡◌};
 ghost use Rattle.mmwave.specs.MmWave.{per_object, payload_rule, once_mark};
 ghost use Rattle.mmwave.specs.VitalSigns.{vital_rule};

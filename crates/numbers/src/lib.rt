@@ -1,4 +1,6 @@
 // Little-endian 32-bit numbers in bytes, both ways.
+#![tactic(auto)]
+
 ghost use Rattle.std.specs.Prelude.{◌≡◌, [], ◌∷◌};
 ghost use Rattle.digits.specs.LittleEndian.{from_little, word_at};
 ghost use Rattle.digits.specs.Stores.{word_stored};

@@ -2,6 +2,8 @@
 // the kinds 16 and 17 the header's refusal, the first step of a reader that holds the bytes, the step behind it, and record 1; at the end
 // the first slice as kind 18, which no packet has. A line has spaces between its fields. (The host's tests ask the C face on the same
 // slices.)
+#![tactic(auto)]
+
 use case_input::{case_at, case_end};
 use libc::{STDIN_FILENO, STDOUT_FILENO};
 use packet::{PacketPoints, PacketRecord, PacketStep};

@@ -1,4 +1,6 @@
 // The records of one whole packet of the kind named, and a cursor over them (paper 01, "Fields"; paper 02, (i)).
+#![tactic(auto)]
+
 ghost use Rattle.std.specs.Prelude.{◌≡◌, suc, ◌≤◌};
 ghost use Rattle.packet.specs.Walk.{records_of, end_at, record_at, starts_among};
 ghost use Rattle.packet.specs.Fields.{no_record, record_shown, record_read, RecordShown, no_step, step_shown, step_read, StepShown};

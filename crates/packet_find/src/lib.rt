@@ -1,4 +1,6 @@
 // The record of points of a packet: its first record of type 1 (paper 01, "Fields").
+#![tactic(auto)]
+
 ghost use Rattle.std.specs.Prelude.{◌≡◌};
 ghost use Rattle.packet.specs.Walk.{first_of_type};
 ghost use Rattle.packet.specs.Internal.{point_record_found};

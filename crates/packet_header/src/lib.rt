@@ -1,4 +1,6 @@
 // The header of one whole packet of the kind named, and the payload length in a record's header (paper 01, "Fields"; paper 02, (i)).
+#![tactic(auto)]
+
 ghost use Rattle.std.specs.Prelude.{◌≡◌};
 ghost use Rattle.packet.specs.Walk.{length_at};
 ghost use Rattle.packet.specs.Fields.{dialect_named, no_header, header_shown, header_of};

@@ -1,5 +1,7 @@
 // The packet reader: it holds the lent bytes, the offset of its next record and the kind of packet that it reads (paper 01, "Fields";
 // paper 02, (i)). The functions over it are thin, since each is proved by a walk of its code by hand; the work is done on a plain slice.
+#![tactic(auto)]
+
 ghost use Rattle.std.specs.Prelude.{◌≡◌};
 ghost use Rattle.packet.specs.Fields.{step_of};
 ghost use Rattle.packet_reader.specs.Steps.{Stepped};

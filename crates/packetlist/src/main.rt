@@ -1,4 +1,6 @@
 // Lists the mmWave packets of standard input (paper 01, "The listing").
+#![tactic(auto)]
+
 use capture::Dialect;
 use mmwave::PacketDialect;
 

@@ -1,4 +1,6 @@
 // The first of a record's points that is close, by the bits of the coordinates (paper 02, (vi)).
+#![tactic(auto)]
+
 ghost use Rattle.std.specs.Prelude.{◌≡◌, ◌/◌, length};
 ghost use Rattle.proximity.specs.Internal.{bits_within, point_within, first_within};
 

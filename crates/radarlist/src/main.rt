@@ -1,4 +1,6 @@
 // Lists the SiRad frames of standard input (paper 01, "The listing").
+#![tactic(auto)]
+
 use capture::Dialect;
 
 fn main() {

@@ -1,5 +1,6 @@
 // The open and the closed reading of bytes, for any judgement: what they answer. Definitions and theorems are in specs/ and proofs/, the
 // code is in `capture`.
+#![tactic(auto)]
 
 // A frame of the answer: its offset (paper 01's "place"), length and kind.
 #[derive(Drop)]

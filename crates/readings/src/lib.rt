@@ -1,5 +1,6 @@
 // The readings' C face, a library apart from the gateway's: with one caller in it the judgement is compiled into the readings' loop.
 // A slice is a pointer that is not null and a count; the numbers of each answer are those of paper 01.
+#![tactic(auto)]
 
 ghost use Rattle.std.specs.Prelude.{true, false};
 ghost use Rattle.capture.specs.Entries.{Reads};

@@ -1,4 +1,5 @@
 // The SiRad frames (paper 01, "SiRad"; paper 02, (ii)): their types, definitions and laws.
+#![tactic(auto)]
 
 // The classes of which a frame has runs of bytes; a fixed byte is tested apart.
 #[derive(Drop)]

@@ -1,4 +1,5 @@
 // Single bytes of a SiRad frame: of a class, or fixed (paper 01, "SiRad"; paper 02, (ii)).
+#![tactic(auto)]
 
 ghost use Rattle.std.specs.Prelude.{◌≡◌, eqb};
 ghost use Rattle.form.specs.Numbers.{Judges};

@@ -1,4 +1,5 @@
 // Runs of bytes and the blocks of a target list, byte by byte: where one fails, it is found (paper 01, "SiRad"; paper 02, (ii)).
+#![tactic(auto)]
 
 ghost use Rattle.std.specs.Prelude.{◌≡◌};
 ghost use Rattle.form.specs.Form.{judge_at};

@@ -1,4 +1,5 @@
 // The judgement of bytes as a SiRad frame, byte by byte (paper 01, "SiRad" and "Judging a place").
+#![tactic(auto)]
 
 ghost use Rattle.std.specs.Prelude.{◌≡◌, true, ◌≤◌};
 ghost use Rattle.digits.specs.Bytes.{is_hex};

@@ -1,4 +1,5 @@
 // The pieces of a SiRad frame, many bytes at once: runs of bytes, and the blocks of a target list (paper 01, "SiRad"; paper 02, (ii)).
+#![tactic(auto)]
 
 ghost use Rattle.std.specs.Prelude.{◌≡◌, true, ◌+◌, ◌≤◌, length};
 ghost use Rattle.form.specs.Form.{judge_at};

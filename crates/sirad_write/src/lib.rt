@@ -1,4 +1,5 @@
 // Writers of SiRad's status and error frames into a lent buffer (paper 01, "SiRad" and "Fields").
+#![tactic(auto)]
 
 ghost use Rattle.std.specs.Prelude.{◌&&◌, ◌≡◌, ◌≤◌, ltb, length};
 ghost use Rattle.digits.specs.Bytes.{is_character};

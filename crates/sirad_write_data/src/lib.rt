@@ -1,4 +1,5 @@
 // The writer of SiRad's data frames, kinds 1 to 3, into a lent buffer (paper 01, "SiRad" and "Fields").
+#![tactic(auto)]
 
 ghost use Rattle.std.specs.Prelude.{◌≡◌, ◌+◌, ◌≤◌, length};
 ghost use Rattle.digits.specs.Stores.{Writes, stored};

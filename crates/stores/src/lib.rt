@@ -1,4 +1,5 @@
 // Stores into a lent buffer, and the refusal of a writer.
+#![tactic(auto)]
 
 ghost use Rattle.std.specs.Prelude.{◌≡◌, [], ◌∷◌, replicate};
 ghost use Rattle.digits.specs.Stores.{stored_within, writer_refusal};

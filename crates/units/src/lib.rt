@@ -1,6 +1,8 @@
 // The number rules (paper 01, "Numbers"; paper 02, (iv), (v)): all definitions and theorems, and what accuracies and coordinates mean;
 // `character_units` has what characters mean. Sign and magnitude stay apart up to `signed_quantity`; so all numbers before the last step
 // are whole and not negative, and no rounding but ours takes place.
+#![tactic(auto)]
+
 ghost use Rattle.std.specs.Prelude.{◌≡◌, ◌^◌, ◌<◌, ◌≤◌};
 ghost use Rattle.units.specs.Rounding.{signed, half_up, nearest};
 ghost use Rattle.units.specs.Units.{value, refused, is_edition, ties_of, accuracy_millimetres};
