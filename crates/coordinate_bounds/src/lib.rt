@@ -13,7 +13,7 @@ const TOO_DISTANT: u32 = 33;
 const MAX_DISTANCE: u32 = 1000000;
 
 // The limit of the bits, with the sign last, of the floats within a distance; or the refusal number with the limit 0.
-#[derive(Drop)]
+#[derive(Clone, Copy)]
 pub struct Bound {
     pub refusal: u32,
     pub limit: u32,

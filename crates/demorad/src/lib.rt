@@ -36,7 +36,7 @@ pub const RD: u32 = 0x8000_0000;
 pub const LENGTH: u32 = 0x1_0000;
 
 // A command that was read; refused: its number, and every other number 0.
-#[derive(Drop)]
+#[derive(Clone, Copy)]
 pub struct Command {
     pub refusal: u32,
     pub rd: bool,
@@ -46,7 +46,7 @@ pub struct Command {
 }
 
 // What a code allows: its fewest and most payload words, and where it selects, that payload word `index` (from 0) is at most `top`.
-#[derive(Drop)]
+#[derive(Clone, Copy)]
 pub struct Rule {
     pub known: bool,
     pub least: u32,

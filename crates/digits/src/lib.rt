@@ -16,7 +16,7 @@ const LAST_CHARACTER: u8 = 254;
 
 // What a writer answers: the refusal number (0: none) and the bytes produced.
 #[repr(C)]
-#[derive(Drop)]
+#[derive(Clone, Copy)]
 pub struct Written {
     pub refusal: u32,
     pub size: usize,

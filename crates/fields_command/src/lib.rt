@@ -15,7 +15,7 @@ const NO_ENCODING: u32 = 50;
 // A command: the refusal number (0: none), RD as 0 or 1, the code, the payload count and thirty words.
 // A host may hand over any number as RD, so it is no `bool` here.
 #[repr(C)]
-#[derive(Drop)]
+#[derive(Clone, Copy)]
 pub struct CommandNumbers {
     pub refusal: u32,
     pub rd: u32,

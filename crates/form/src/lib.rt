@@ -6,7 +6,7 @@ ghost use Rattle.form.specs.Numbers.{numbers_of, Judges};
 ghost use Rattle.form.specs.Pieces.{any, always, four, free, frees};
 
 // Paper 01, "Judging a place". Inside a grammar `Whole` carries a piece's value and the offset behind it.
-#[derive(Drop)]
+#[derive(Clone, Copy)]
 pub enum Judgement {
     // a whole frame: kind, length
     Whole(u32, usize),
@@ -25,7 +25,7 @@ pub const STATE_WAITING: u32 = 3;
 
 // A judgement in numbers: the refusal (0: none), the state, kind and length of a whole frame, the reason of a bad one.
 #[repr(C)]
-#[derive(Drop)]
+#[derive(Clone, Copy)]
 pub struct JudgementNumbers {
     pub refusal: u32,
     pub state: u32,

@@ -3,7 +3,7 @@
 #![tactic(auto)]
 
 // What standard input gave: so many bytes, or a read failed.
-#[derive(Drop)]
+#[derive(Clone, Copy)]
 pub enum Input {
     Read(usize),
     Failed,

@@ -2,7 +2,7 @@
 #![tactic(auto)]
 
 // The packet dialects.
-#[derive(Drop)]
+#[derive(Clone, Copy)]
 pub enum PacketDialect {
     // the mmWave demo's chips (paper 01, "mmWave")
     MmWave,
@@ -12,7 +12,7 @@ pub enum PacketDialect {
 
 // The packet header's fields; its offsets and its size are the type's constants.
 #[repr(C)]
-#[derive(Drop)]
+#[derive(Clone, Copy)]
 pub struct Header {
     pub version: u32,
     pub total: u32,
@@ -45,7 +45,7 @@ impl Header {
 }
 
 // The payload lengths that a record's type may have.
-#[derive(Drop)]
+#[derive(Clone, Copy)]
 pub enum Rule {
     // none at all
     Never,
@@ -58,7 +58,7 @@ pub enum Rule {
 }
 
 // What lengths are multiples of.
-#[derive(Drop)]
+#[derive(Clone, Copy)]
 pub enum Unit {
     Two,
     Four,

@@ -46,7 +46,7 @@ fn magic_at(s: &[u8], from: usize) -> Judgement
 }
 
 // The fields of the header that have a test.
-#[derive(Drop)]
+#[derive(Clone, Copy)]
 pub enum Check {
     Total,
     Objects,

@@ -11,7 +11,7 @@ use packet::PacketRecord;
 use packet_reader::PacketReader;
 
 // A record's payload as the part of the slice; `refusal` is 0, or its number with an empty part and `tag` 0.
-#[derive(Drop)]
+#[derive(Clone, Copy)]
 pub struct RecordPart<'a> {
     pub payload: &'a [u8],
     pub refusal: u32,

@@ -10,7 +10,7 @@ use mmwave::Header;
 use packet::{Cursor, PacketStep};
 
 // The lent bytes, the offset of the next record, and the kind of packet that the bytes are read as: 16 or 17, any other is refused with 5.
-#[derive(Drop)]
+#[derive(Clone, Copy)]
 pub struct PacketReader<'a> {
     pub bytes: &'a [u8],
     pub at: usize,

@@ -5,7 +5,7 @@
 // The answer: `refusal` is 0, or its number with all else 0; `close` is 1 with the offset (the paper's "place") of the first packet that
 // has a close point and the index of its first close one, or 0 with zeros.
 #[repr(C)]
-#[derive(Drop)]
+#[derive(Clone, Copy)]
 pub struct Closeness {
     pub refusal: u32,
     pub close: u32,

@@ -3,7 +3,7 @@
 #![tactic(auto)]
 
 // A frame of the answer: its offset (paper 01's "place"), length and kind.
-#[derive(Drop)]
+#[derive(Clone, Copy)]
 pub struct Row {
     pub offset: u32,
     pub size: u32,
@@ -24,7 +24,7 @@ pub const STATE_END: u32 = 2;
 // What a reading answers: the refusal number (0: none), why it stopped, how many rows it wrote, the skipped bytes, and the offset where it
 // stopped.
 #[repr(C)]
-#[derive(Drop)]
+#[derive(Clone, Copy)]
 pub struct Answer {
     pub refusal: u32,
     pub state: u32,

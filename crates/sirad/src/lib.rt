@@ -2,7 +2,7 @@
 #![tactic(auto)]
 
 // The classes of which a frame has runs of bytes; a fixed byte is tested apart.
-#[derive(Drop)]
+#[derive(Clone, Copy)]
 pub enum ByteClass {
     Hex,
     Char,
@@ -10,7 +10,7 @@ pub enum ByteClass {
 }
 
 // What an identifier announces; the frames with a size field carry their kind.
-#[derive(Drop)]
+#[derive(Clone, Copy)]
 pub enum Kind {
     Sized(u32),
     Targets,

@@ -44,7 +44,7 @@ const SIGNIFICAND_PARTS: u64 = 125;
 const HALF: u64 = 0x80000000;
 
 // An accuracy in millimetres, or the refusal number with 0 millimetres.
-#[derive(Drop)]
+#[derive(Clone, Copy)]
 pub struct Accuracy {
     pub refusal: u32,
     pub millimetres: u16,
@@ -52,7 +52,7 @@ pub struct Accuracy {
 
 // A value, or the refusal number with the value 0.
 #[repr(C)]
-#[derive(Drop)]
+#[derive(Clone, Copy)]
 pub struct Quantity {
     pub refusal: u32,
     pub value: i32,
