@@ -137,7 +137,7 @@ judged_laid P bs v w =
 -- -- From the bytes to the judgement
 
 -- k records have at least their headers
-pub records_least : {P : Profile} {bs ts : List ℕ} {n k p e : ℕ} → Records P bs n ts k p e → p + 8 * k ≤ e
+pub records_least : {P : Profile} {bs : List ℕ} {n : ℕ} {ts : List ℕ} {k p e : ℕ} → Records P bs n ts k p e → p + 8 * k ≤ e
 records_least none = omega arith
 records_least (more f l r) = omega (arith, records_least r)
 

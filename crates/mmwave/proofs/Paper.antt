@@ -13,7 +13,7 @@ use Rattle.mmwave.specs.Profile.{Profile, legal, fresh, see, seen_in, Sound, Fai
 use Rattle.mmwave.specs.Packet.{magic, packet}
 use Rattle.mmwave.specs.Document.{Records, none, more, Laid}
 use Rattle.mmwave.specs.Paper.{Sentences, RecordsTo, types_from, Packet, NoneExcludes}
-use Rattle.mmwave.specs.Paper.{none as none·paper, more as more·paper}
+use Rattle.mmwave.specs.Paper.{none as none_paper, more as more_paper}
 use Rattle.mmwave.proofs.Marks.{Apart, fresh_first, fresh_more}
 use Rattle.mmwave.proofs.Together.{NoneAgain}
 use Rattle.mmwave.proofs.Sounds.{fair_more}
@@ -58,22 +58,22 @@ module _ (P : Profile) (S : Sound P) (W : Sentences) (says : Says P W) where
   fresh_exactly (s ∷ ts) t = let m = fresh_more P (seen_in P ts) s t in let r = fresh_exactly ts t in let x = says.marks_say s t in
       (λ h. let g = m.0 h in (x.0 g.1, r.0 g.0), λ g. m.1 (r.1 g.1, x.1 g.0))
 
-  words_forth : {bs ts : List ℕ} {n k p e : ℕ} → Records P bs n ts k p e → RecordsTo W bs n k p e
-  words_forth none = none·paper
+  words_forth : {bs : List ℕ} {n : ℕ} {ts : List ℕ} {k p e : ℕ} → Records P bs n ts k p e → RecordsTo W bs n k p e
+  words_forth none = none_paper
   words_forth {bs = bs} {n = n} (more {p = p} f l r) =
-      more·paper ((says.legal_says n (little_at 4 p bs) (little_at 4 (p + 4) bs)).0 l) (words_forth r)
+      more_paper ((says.legal_says n (little_at 4 p bs) (little_at 4 (p + 4) bs)).0 l) (words_forth r)
 
-  none_again : {bs ts : List ℕ} {n k p e : ℕ} → Records P bs n ts k p e → NoneAgain W ts (types_from bs k p)
+  none_again : {bs : List ℕ} {n : ℕ} {ts : List ℕ} {k p e : ℕ} → Records P bs n ts k p e → NoneAgain W ts (types_from bs k p)
   unfolding NoneAgain types_from
   none_again none = tt
   none_again {bs = bs} {ts = ts} (more {p = p} f l r) = ((fresh_exactly ts (little_at 4 p bs)).0 f, none_again r)
 
-  words_back : {bs ts : List ℕ} {n k p e : ℕ} → RecordsTo W bs n k p e → NoneAgain W ts (types_from bs k p) → Records P bs n ts k p e
+  words_back : {bs : List ℕ} {n : ℕ} {ts : List ℕ} {k p e : ℕ} → RecordsTo W bs n k p e → NoneAgain W ts (types_from bs k p) → Records P bs n ts k p e
   unfolding NoneAgain types_from
-  words_back none·paper a = none
-  words_back {bs = bs} {ts = ts} {n = n} (more·paper {p = p} l r) a =
+  words_back none_paper a = none
+  words_back {bs = bs} {n = n} {ts = ts} (more_paper {p = p} l r) a =
       more ((fresh_exactly ts (little_at 4 p bs)).1 a.0) ((says.legal_says n (little_at 4 p bs) (little_at 4 (p + 4) bs)).1 l)
-      (words_back r a.1)
+      (words_back {ts = little_at 4 p bs ∷ ts} r a.1)
 
   -- the records of the papers' packet are the profile's
   pub packet_records : (bs : List ℕ) (g : Packet W bs) → Records P bs (little_at 4 28 bs) [] (little_at 4 32 bs) 40 g.end

@@ -26,7 +26,7 @@ fails_exactly false f = (λ e a. let g = f.1 a in let z : ◌≡◌ {A = ℕ} 0 
 
 -- -- Records that could follow
 
-later_least : {W : Sentences} {ts : List ℕ} {n k e : ℕ} → Later W n ts k e → 8 * k ≤ e
+later_least : {W : Sentences} {n : ℕ} {ts : List ℕ} {k e : ℕ} → Later W n ts k e → 8 * k ≤ e
 later_least nothing = omega arith
 later_least (later type m s f w r) = omega (arith, later_least r)
 
