@@ -9,8 +9,6 @@ use native.Mathlib.Decide.{dec_lt, dec_le}
 use lib.Dec.{eqb}
 use lib.ListN.{length, take, drop, get_or, length-drop, drop_of_length-le}
 use borrow.Author.Tests.{eq-eqb, ne_eqb, eqb-true}
-use types.Run.{OneOf, miss}
-use denote.Enum.Declared.{tag_of}
 use Rattle.digits.specs.LittleEndian.{from_little, little_at}
 use Rattle.digits.proofs.Lists.{drop_one, drop_four}
 use Rattle.form.specs.declared.Judgement.{Judgement}
@@ -18,7 +16,6 @@ use Rattle.form.specs.declared.Judgement.TheVariants.{Whole, Bad, Waiting}
 use Rattle.form.specs.Form.{Form, whole, byte, word, ◌>>=◌, judge, judge_at}
 use Rattle.form.specs.Numbers.{numbers_of, Judges}
 use Rattle.form.specs.Pieces.{any, always, four, marker, free, frees}
-use Rattle.form.specs.contracts.Judgement.{the_type}
 
 -- the promise of a judgement is its equation
 pub judges : {p : Form} {at : ℕ} {bs : List ℕ} {r : Judgement} → r ≡ judge_at p at bs → Judges p at bs r
@@ -123,10 +120,10 @@ whole_there v at bs = refl
 
 -- what the else of `let Judgement::Whole(..) = r else` knows of r
 abbrev pub Halted : Judgement → Type 0
-Halted r = OneOf (1 ∷ 2 ∷ []) (tag_of the_type r)
+Halted r = (v e : ℕ) → r ≡ Whole v e → ⊥
 
 halted : (r : Judgement) (h : ℕ → ℕ → Judgement) → Halted r → after r h ≡ r
-halted (Whole v e) h o = absurd (miss (1 ∷ 2 ∷ []) 0 tt o)
+halted (Whole v e) h o = absurd (o v e refl)
 halted (Bad r) h o = refl
 halted Waiting h o = refl
 

@@ -1,0 +1,14 @@
+use borrow.Author.Rules.{rules}
+use Rattle.form.proofs.PieceLaws.{judges}
+use mathlib.Core.Path.{◌≡◌, refl, sym, ◌∙◌}
+use Rattle.form.specs.Form.{judge_at}
+use Rattle.sirad.specs.Sirad.{run}
+use Rattle.sirad.specs.Internal.{class_of}
+use Rattle.sirad.proofs.Runs.{run_next, run_halts, run_over}
+use Rattle.sirad_bytewise.proofs.span.Given as goal
+
+abbrev pub invariant-loop-left : goal.invariant-loop-left
+invariant-loop-left l = judge_at (run l.n (class_of l.c)) l.from l.s ≡ judge_at (run l.left (class_of l.c)) l.at l.s
+
+abbrev pub decreases-loop-left : goal.decreases-loop-left
+decreases-loop-left l = l.left
