@@ -1,0 +1,16 @@
+use mathlib.Core.Path.{refl, ap, sym, ◌≡◌, ◌∙◌}
+use Prim.Native.Nat.{ℕ, ◌≤◌}
+use lib.ListN.{length-set, length}
+use Rattle.listing.specs.Decimal.{decimals, decimal}
+use native.Mathlib.Omega.{arith}
+use Rattle.digits.specs.Stores.{stored}
+use Rattle.listing.proofs.DecimalLaws.{digit_step, digits_over, length_decimal}
+use borrow.Author.Rules.{rules}
+use Rattle.listing_lines.proofs.put_decimal.Given as goal
+
+abbrev pub invariant-loop-left : goal.invariant-loop-left
+invariant-loop-left l =
+    (l.left ≤ l.n) × (l.n ≡ length (decimal l.v)) × (length l.out ≡ length l.initial.out) × (stored l.out l.at (decimals l.left l.rest) ≡ stored l.initial.out l.at (decimal l.v))
+
+abbrev pub decreases-loop-left : goal.decreases-loop-left
+decreases-loop-left l = l.left

@@ -1,0 +1,4 @@
+use Rattle.mmwave_records.proofs.+walk_from.Given as goal
+
+abbrev pub decreases-walk_from : goal.decreases-walk_from
+decreases-walk_from l = l.k
