@@ -1,0 +1,10 @@
+-- `listing_table::put_header` meets its contract.
+use native.Mathlib.Omega.{arith}
+use Rattle.listing.specs.Lines.{header_line}
+use Rattle.listing.proofs.PutLaws.{puts_within}
+use borrow.Author.Rules.{rules}
+use Rattle.listing_table.proofs.put_header.Goals as goal
+
+pub returns : goal.returns
+unfolding header_line
+returns c = puts_within c.put_bytes.ensures (omega arith)

@@ -1,0 +1,15 @@
+use mathlib.Core.Path.{◌≡◌, refl, sym, ◌∙◌}
+use Prim.Native.Nat.{◌≤◌, ◌-◌}
+use native.Mathlib.Omega.{arith}
+use lib.ListN.{drop}
+use Rattle.form.specs.Form.{judge_at}
+use Rattle.form.specs.Pieces.{marker}
+use Rattle.form.proofs.PieceLaws.{marker_hit, marker_miss, marker_ends, marker_over}
+use Rattle.mmwave.specs.Packet.{magic}
+use Rattle.mmwave_pieces.proofs.magic_at.Given as goal
+
+abbrev pub invariant-loop-i : goal.invariant-loop-i
+invariant-loop-i l = (l.i ≤ 8) × (judge_at (marker 20 magic) l.from l.s ≡ judge_at (marker 20 (drop l.i magic)) l.at l.s)
+
+abbrev pub decreases-loop-i : goal.decreases-loop-i
+decreases-loop-i l = 8 - l.i

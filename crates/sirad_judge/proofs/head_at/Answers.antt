@@ -1,0 +1,24 @@
+-- A digit, then a character.
+use borrow.Author.Rules.{rules}
+use mathlib.Core.Path.{sym, ◌∙◌}
+use Rattle.form.proofs.PieceLaws.{go_on, halt, whole_there}
+use Rattle.sirad.proofs.FrameLaws.{head_form}
+use Rattle.sirad_judge.proofs.head_at.Goals as goal
+
+pub returns-in_default : goal.returns-in_default
+returns-in_default c =
+    halt _ _ _ _ c.byte_of-a.ensures.answers c.in_default.not-Whole
+    ∙ sym (head_form _ _)
+
+pub returns-in_default-b : goal.returns-in_default-b
+returns-in_default-b c =
+    halt _ _ _ _ c.byte_of-b.ensures.answers c.in_default-b.not-Whole
+    ∙ sym (go_on _ _ _ _ c.byte_of-a.ensures.answers c.in-Whole.is)
+    ∙ sym (head_form _ _)
+
+pub returns : goal.returns
+returns c =
+    whole_there _ _ _
+    ∙ sym (go_on _ _ _ _ c.byte_of-b.ensures.answers c.in-Whole-b.is)
+    ∙ sym (go_on _ _ _ _ c.byte_of-a.ensures.answers c.in-Whole.is)
+    ∙ sym (head_form _ _)
