@@ -1,0 +1,6 @@
+-- The records' judgement, with the room that the total length leaves.
+use borrow.Author.Rules.{rules}
+use Rattle.mmwave_judge.proofs.behind_header.Goals as goal
+
+pub returns : goal.returns
+returns c = c.judge_records.ensures.answers

@@ -1,0 +1,17 @@
+-- The accuracy first, which an edition that there is none of refuses; then format, gain and the other numbers at their offsets.
+use Rattle.sirad_fields.proofs.ReadingLaws.{status_unnamed, status_made}
+use borrow.Author.Rules.{rules}
+use Rattle.sirad_read.proofs.status_frame.Goals as goal
+
+pub returns-then-rounded-ne0 : goal.returns-then-rounded-ne0
+returns-then-rounded-ne0 c =
+    let a = c.args in
+    status_unnamed a.edition a.s.now c.number_at-accuracy.ensures c.accuracy_to_millimetres-rounded.ensures
+    c.if-rounded-ne0.true c.no_status.ensures
+
+pub returns : goal.returns
+returns c =
+    let a = c.args in
+    status_made a.edition a.s.now c.number_at-accuracy.ensures c.accuracy_to_millimetres-rounded.ensures
+    c.if-rounded-ne0.false c.digit_at-format.ensures c.number_at-max_range.ensures c.number_at-ramp_time.ensures
+    c.number_at-bandwidth.ensures c.number_at-time_difference.ensures
