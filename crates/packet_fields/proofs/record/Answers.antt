@@ -1,0 +1,40 @@
+-- `packet_fields::record` meets its contract: 5, or the record that is read from a packet of the kind.
+use Rattle.packet.proofs.FieldLaws.{other_named, not_whole, other_kind, other_length, one_packet, walks, record_refused, record_read_lem}
+use borrow.Author.Rules.{rules}
+use Rattle.packet_fields.proofs.record.Goals as goal
+
+pub enum_told-1 : goal.enum_told-1
+enum_told-1 c = search rules
+
+pub returns-in_default : goal.returns-in_default
+returns-in_default c = record_refused _ _ _ (other_named _ _ c.dialect_named.ensures c.in_default.is) c.no_record.ensures
+
+pub returns-in_default-judge : goal.returns-in_default-judge
+returns-in_default-judge c =
+    record_refused _ _ _ (not_whole _ _ c.dialect_named.ensures c.in-Packets.is c.judge.ensures.answers
+    c.in_default-judge.not-Whole) c.no_record-in_default-judge.ensures
+
+pub returns-then-found-kind : goal.returns-then-found-kind
+returns-then-found-kind c =
+    let o = other_kind _ _ c.dialect_named.ensures c.in-Packets.is c.judge.ensures.answers c.in-Whole.is
+    c.if-found-kind.true in
+    record_refused _ _ _ o c.no_record-then-found-kind.ensures
+
+pub returns-then-length-packet : goal.returns-then-length-packet
+returns-then-length-packet c =
+    let o = other_length _ _ c.dialect_named.ensures c.in-Packets.is c.judge.ensures.answers c.in-Whole.is
+    c.if-found-kind.false
+    c.if-length-packet.true in
+    record_refused _ _ _ o c.no_record-then-length-packet.ensures
+
+pub read_record-requires : goal.read_record-requires
+read_record-requires c =
+    walks _ _ (one_packet _ _ c.dialect_named.ensures c.in-Packets.is c.judge.ensures.answers c.in-Whole.is
+    c.if-found-kind.false c.if-length-packet.false)
+
+pub returns : goal.returns
+returns c =
+    let o = one_packet _ _ c.dialect_named.ensures c.in-Packets.is c.judge.ensures.answers c.in-Whole.is
+    c.if-found-kind.false
+    c.if-length-packet.false in
+    record_read_lem _ _ _ o c.read_record.ensures
