@@ -1,0 +1,6 @@
+-- `door::vq_anyone_close` meets its contract, which is that of `anyone_close`.
+use borrow.Author.Rules.{rules}
+use Rattle.door.proofs.vq_anyone_close.Goals as goal
+
+pub returns : goal.returns
+returns c = c.anyone_close.ensures
