@@ -365,7 +365,8 @@ alone bs at i w l k n s = within (dec_lt i (length bs))
         waiting_starts_once (drop at bs) w (i - at) (omega arith) (omega arith) (rw (get_or-drop, o) (eqb-true (get_or bs i 0) 33 t))
 
     within : Dec (i < length bs) → ⊥
-    within (yes h) = test (eqb (get_or bs i 0) 33) (starts h) (λ f. prefix.bad_whole (no_start Sirad bs i h (eqb-false (get_or bs i 0) 33 f)) s)
+    within (yes h) = test (eqb (get_or bs i 0) 33) (starts h) (λ f. prefix.bad_whole
+        (no_start Sirad bs i h (eqb-false (get_or bs i 0) 33 f)) s)
     within (no h) = leftmost.none_at_end (judge_of Sirad) (lawful_of Sirad) bs i (omega arith) k n s
 
 pub sirad_open_is_closed : say.SiradOpenIsClosed
@@ -448,19 +449,22 @@ accuracies_differ = units.accuracy_editions
 -- -- Values at the edges
 
 pub edges_hold : say.EdgesHold
-unfolding edges form_of profile_of to_little from_little digit ◌>>=◌ judge marker free frees count_ok fits possible fresh type_ok type_passes
+unfolding edges form_of profile_of to_little from_little digit ◌>>=◌ judge marker free frees count_ok fits possible fresh type_ok
+    type_passes
     type_reason length_ok see magic payload last records counted packet mm_wave total_legal per_object payload_rule once_bit once_mark
     sirad body number row run characters millimetres coordinate accuracy_millimetres ties_of decibels centidegrees significand scale nearest
 edges_hold = refl
 
 pub vital_edges_hold : say.VitalEdgesHold
-unfolding vital_edges form_of profile_of to_little from_little ◌>>=◌ judge marker free frees count_ok fits possible fresh type_ok type_passes
+unfolding vital_edges form_of profile_of to_little from_little ◌>>=◌ judge marker free frees count_ok fits possible fresh type_ok
+    type_passes
     type_reason length_ok see magic payload last records counted packet mm_wave total_legal per_object payload_rule once_bit once_mark
     vital_signs vital_total vital_rule
 vital_edges_hold = refl
 
 pub once_grid_holds : say.OnceGridHolds
-unfolding once_grid pairs_of form_of profile_of to_little from_little ◌>>=◌ judge marker free frees count_ok fits possible fresh type_ok type_passes
+unfolding once_grid pairs_of form_of profile_of to_little from_little ◌>>=◌ judge marker free frees count_ok fits possible fresh type_ok
+    type_passes
     type_reason length_ok see magic payload last records counted packet mm_wave total_legal per_object payload_rule once_bit once_mark
 once_grid_holds = refl
 

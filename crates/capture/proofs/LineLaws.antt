@@ -38,7 +38,8 @@ unfolding closed_rows
 closed_rows_stand d bs = rows_stand (judge_of d) (lawful_of d) true bs (length bs)
 
 -- a table of three zeros at exit of the closed reading is the first row, or zeros
-pub first_stored : (d : Dialect) (number : ℕ) (bs : List ℕ) (r : Answer) (after : List ℕ) → number ≡ dialect_number d → length bs ≤ max_bytes
+pub first_stored : (d : Dialect) (number : ℕ) (bs : List ℕ) (r : Answer) (after : List ℕ) → number ≡ dialect_number d
+    → length bs ≤ max_bytes
     → Reads number true bs (0 ∷ 0 ∷ 0 ∷ []) r after
     → record { offset = get_or after 0 0; size = get_or after 1 0; kind = get_or after 2 0 } ≡ first_row (closed_rows d bs)
 unfolding read_leaves stored flat

@@ -37,7 +37,8 @@ pub answer_number : (d : Dialect) (s : Stream) (carry bytes : List ℕ) (room : 
 unfolding feed_answer
 answer_number d s carry bytes room = go (ℕ_discrete (feed_refusal d s carry bytes room) 0)
   where
-    go : Dec (feed_refusal d s carry bytes room ≡ 0) → (feed_answer (Known d) s carry bytes room).refusal ≡ feed_refusal d s carry bytes room
+    go : Dec (feed_refusal d s carry bytes room ≡ 0) → (feed_answer (Known d) s carry bytes room).refusal
+        ≡ feed_refusal d s carry bytes room
     go (yes e) = rw (eq-eqb (feed_refusal d s carry bytes room) 0 e) (sym e)
     go (no e) = rw (ne_eqb (feed_refusal d s carry bytes room) 0 e)
 

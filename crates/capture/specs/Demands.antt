@@ -1,10 +1,12 @@
 -- The front door: what is proved of captures and of millimetres, in the words of the demands and of the papers.
 -- Each definition below is a proposition under its words; its proof has the same name in small letters, in proofs/Demands.antt.
 -- `judge_at` promises that its answer is `verdict`, the readings that theirs are `read_answer` and that they leave `read_leaves` in the
--- table, the choice of lines that its part is `part_of` (and, `RefersTo`, that the reference is to that part), the feeder what `Feeds` says,
+-- table, the choice of lines that its part is `part_of` (and, `RefersTo`, that the reference is to that part), the feeder what `Feeds`
+-- says,
 -- the number rules that their answers are `millimetres` and `accuracy_millimetres`: so what is said of these is said of the answers.
 -- Lists hold any numbers; `Bytes` says that each is below 256 where a theorem needs it.
-use Rattle.std.specs.Prelude.{Bool, true, false, ◌≡◌, List, [], ◌∷◌, ◌++◌, map, ◌↔◌, ◌⊎◌, ℕ, suc, ◌+◌, ◌*◌, ◌%◌, ◌^◌, ◌<◌, ◌≤◌, ℤ, pos, length, drop}
+use Rattle.std.specs.Prelude.{Bool, true, false, ◌≡◌, List, [], ◌∷◌, ◌++◌, map, ◌↔◌, ◌⊎◌, ℕ, suc, ◌+◌, ◌*◌, ◌%◌, ◌^◌, ◌<◌, ◌≤◌, ℤ}
+use Rattle.std.specs.Prelude.{pos, length, drop}
 use Rattle.digits.specs.Bytes.{Bytes}
 use Rattle.digits.specs.LittleEndian.{little_at}
 use Rattle.form.specs.Form.{Frame, Stands, Completable}
@@ -301,7 +303,8 @@ TwoLines = (d : Dialect) (main standby : List ℕ) → length main ≤ max_bytes
 abbrev pub RefusedLineIsEmpty : Type 0
 RefusedLineIsEmpty =
     (number : ℕ) (main standby : List ℕ) (closed : Bool) (room : ℕ)
-    → (((read_answer (dialect_of number) closed main room).refusal ≡ 0) × ((read_answer (dialect_of number) closed standby room).refusal ≡ 0)
+    → (((read_answer (dialect_of number) closed main room).refusal ≡ 0)
+        × ((read_answer (dialect_of number) closed standby room).refusal ≡ 0)
     → ⊥) → part_of (dialect_of number) main standby ≡ empty_part
 
 -- -- Bytes as the port gives them (paper 02, (iii))

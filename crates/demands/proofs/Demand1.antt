@@ -24,7 +24,8 @@ use Rattle.units.specs.declared.Quantity.{Quantity}
 use Rattle.units.proofs.Theorems.{edition_exactly}
 use Rattle.sirad.specs.Table.{TableFrame}
 use Rattle.sirad_fields.specs.Frames.{frame_kind}
-use Rattle.sirad_fields.specs.Fields.{is_data, no_data, read_data, no_targets, read_targets, no_status, status_read, read_status, no_error, read_error}
+use Rattle.sirad_fields.specs.Fields.{is_data, no_data, read_data, no_targets, read_targets, no_status, status_read, read_status}
+use Rattle.sirad_fields.specs.Fields.{no_error, read_error}
 use Rattle.sirad_fields.specs.declared.DataFrame.{DataFrame}
 use Rattle.sirad_fields.specs.declared.TargetFrame.{TargetFrame}
 use Rattle.sirad_fields.specs.declared.StatusFrame.{StatusFrame}
@@ -230,7 +231,8 @@ millimetres_refuse edition bits =
     (is_edition edition) (edition_exactly edition) (millimetres edition bits) (λ f. rw f)
     (λ named.
     when_test numbers.refused quantity_number (λ n. refl) (31 when (1000 * 2 ^ 150 < magnitude bits) else none) 30
-    (not_finite bits) (eqb-true (exponent bits) 255, eq-eqb (exponent bits) 255) (millimetres edition bits) (λ infinite. rw (named, infinite))
+    (not_finite bits) (eqb-true (exponent bits) 255, eq-eqb (exponent bits) 255) (millimetres edition bits)
+        (λ infinite. rw (named, infinite))
     (λ finite.
     when_test numbers.refused quantity_number (λ n. refl) none 31
     (ltb (1000 * 2 ^ 150) (magnitude bits)) (less_exactly (1000 * 2 ^ 150) (magnitude bits)) (millimetres edition bits)

@@ -35,7 +35,8 @@ use Rattle.demands.proofs.InOrder.{less_exactly, fine, zeros_beside, unless_test
 pub header_refuses : say.HeaderRefuses
 unfolding header_of
 header_refuses kind bs =
-    unless_test no_header (λ (a : PacketHeader). a.refusal) (λ n. refl) none 5 (is_packet kind bs) (packet_exactly kind bs) (header_of kind bs)
+    unless_test no_header (λ (a : PacketHeader). a.refusal) (λ n. refl) none 5 (is_packet kind bs) (packet_exactly kind bs)
+        (header_of kind bs)
     (λ f. rw f) (λ y. fine no_header (λ (a : PacketHeader). a.refusal) (λ n. refl) (header_of kind bs) (rw y))
 
 pub record_refuses : say.RecordRefuses

@@ -63,7 +63,8 @@ RefusedReadingChangesNothing =
 abbrev pub RefusedLineIsEmpty : Type 0
 RefusedLineIsEmpty =
     (dialect : ℕ) (main standby : List ℕ) (closed : Bool) (room : ℕ)
-    → (((read_answer (dialect_of dialect) closed main room).refusal ≡ 0) × ((read_answer (dialect_of dialect) closed standby room).refusal ≡ 0)
+    → (((read_answer (dialect_of dialect) closed main room).refusal ≡ 0)
+        × ((read_answer (dialect_of dialect) closed standby room).refusal ≡ 0)
     → ⊥) → part_of (dialect_of dialect) main standby ≡ empty_part
 
 -- -- Fields of SiRad frames: "5 slice is not exactly one whole frame of the wanted kind", and for U frames 32 (paper 02, (iv))
@@ -91,7 +92,8 @@ abbrev pub ErrorReaderRefuses : Type 0
 ErrorReaderRefuses =
     (bs : List ℕ) → Refuses (5 unless (TableFrame 6 bs) else none) no_error (λ (a : ErrorFrame). a.refusal) (read_error bs)
 
--- -- Fields of packets: "5, 7, 6, then for a point 30 or 31 of its first coordinate that has one"; 32 behind 6 (paper 02, (iv)); of the kind
+-- -- Fields of packets: "5, 7, 6, then for a point 30 or 31 of its first coordinate that has one"; 32 behind 6 (paper 02, (iv)); of the
+-- kind
 -- named, "any but 16 and 17: 5" (paper 02, (i))
 
 -- `packet_header::header`

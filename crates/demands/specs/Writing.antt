@@ -2,9 +2,11 @@
 -- "Refusal numbers"; paper 02, (ii)).
 -- Each writer promises `Writes` with the refusal of its values and its bytes: `sirad_write_data::write_data` by `data_refusal` and
 -- `data_bytes`, `sirad_targets::write_targets` by `targets_refusal` and `targets_bytes`, `sirad_write::write_status` and `write_error` by
--- `status_refusal`, `status_bytes`, `error_refusal` and `error_bytes`, `demorad_write::write_command` by `legality` and `command_bytes`, and
+-- `status_refusal`, `status_bytes`, `error_refusal` and `error_bytes`, `demorad_write::write_command` by `legality` and `command_bytes`,
+-- and
 -- `listing_text::write_listing` by 0 and `listing`. `out` is the lent buffer at entry, `after` at exit, `r` the answer.
-use Rattle.std.specs.Prelude.{Bool, true, false, cond, ◌&&◌, ◌||◌, ◌≡◌, List, [], ◌∷◌, ◌++◌, ℕ, ◌+◌, ◌-◌, ◌%◌, ◌^◌, ◌<◌, ◌≤◌, eqb, leb, length, take, drop, get_or, replicate}
+use Rattle.std.specs.Prelude.{Bool, true, false, cond, ◌&&◌, ◌||◌, ◌≡◌, List, [], ◌∷◌, ◌++◌, ℕ, ◌+◌, ◌-◌, ◌%◌, ◌^◌, ◌<◌, ◌≤◌, eqb}
+use Rattle.std.specs.Prelude.{leb, length, take, drop, get_or, replicate}
 use Rattle.digits.specs.Bytes.{Below, Bytes, within, is_character}
 use Rattle.digits.specs.Stores.{Writes}
 use Rattle.digits.specs.declared.Written.{Written}
@@ -148,7 +150,8 @@ CommandReadsBack =
     → Writes (legality code count words) (command_bytes rd code count words) out r after → r.refusal ≡ 0
     → read_command (take r.size after) ≡ command rd code count (padded (take count words))
 
--- -- "SiRad read and written again is the same but for reserved bytes, now `0`" (paper 01, "Refusal numbers"), and but for fourteen bytes of
+-- -- "SiRad read and written again is the same but for reserved bytes, now `0`" (paper 01, "Refusal numbers"), and but for fourteen bytes
+-- of
 -- value 0, which become `0` (paper 02, (ii)); "a command is the same throughout"
 
 -- byte i of a frame is reserved or of a block of value 0: in kinds 1 to 3 the eight bytes behind the size, in T frames the last four of a
@@ -167,7 +170,8 @@ pub record FrameAgain (kind : ℕ) (frame out : List ℕ) (r : Written) (after :
 abbrev pub DataWritesBack : Type 0
 DataWritesBack =
     (bs out : List ℕ) (r : Written) (after : List ℕ) → (read_data bs).refusal ≡ 0 → length bs ≤ length out
-    → Writes (data_refusal (read_data bs).kind (part_of (read_data bs) bs)) (data_bytes (read_data bs).kind (part_of (read_data bs) bs)) out r after
+    → Writes (data_refusal (read_data bs).kind (part_of (read_data bs) bs)) (data_bytes (read_data bs).kind (part_of (read_data bs) bs))
+        out r after
     → FrameAgain (read_data bs).kind bs out r after
 
 -- targets

@@ -56,7 +56,8 @@ module _ (bs : List ℕ) where
       )
 
   -- 0: none of these
-  pub framing_fine : 4 ≤ length bs → rest_of (header_of bs) ≡ 0 → (length_of (header_of bs) ≡ 0 → ⊥) → length bs ≡ 4 * length_of (header_of bs)
+  pub framing_fine : 4 ≤ length bs → rest_of (header_of bs) ≡ 0 → (length_of (header_of bs) ≡ 0 → ⊥) → length bs
+      ≡ 4 * length_of (header_of bs)
       → ◌≡◌ {A = ℕ} 0 (framing bs)
   unfolding framing
   framing_fine l r n s =

@@ -164,7 +164,8 @@ buffer_reads_back rd code count words out r after small thirty =
     (command_bytes rd code count words) out r after (λ ok. written_reads_back rd code count words ok small thirty)
 
 -- a command read and written into a buffer with room is there again, and all behind it stays
-pub buffer_writes_back : (bs out : List ℕ) (r : Written) (after : List ℕ) → Bytes bs → (read_command bs).refusal ≡ 0 → length bs ≤ length out
+pub buffer_writes_back : (bs out : List ℕ) (r : Written) (after : List ℕ) → Bytes bs → (read_command bs).refusal ≡ 0
+    → length bs ≤ length out
     → Writes (legality (read_command bs).code (read_command bs).count (read_command bs).words)
     (command_bytes (read_command bs).rd (read_command bs).code (read_command bs).count (read_command bs).words) out r after
     → (r.refusal ≡ 0) × (after ≡ bs ++ drop (length bs) out)

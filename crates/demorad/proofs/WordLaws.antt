@@ -47,7 +47,8 @@ bytes_words (suc n) (a ∷ b ∷ c ∷ d ∷ bs) (p, (q, (r, (s, hs)))) e =
     rw (to_from_little (a ∷ b ∷ c ∷ d ∷ []) (p, (q, (r, (s, tt)))), bytes_words n bs hs (omega arith))
 
 -- the next word at an offset
-pub words_more : (n at : ℕ) (bs : List ℕ) → at + 4 ≤ length bs → words_of (suc n) (drop at bs) ≡ word_at bs at ∷ words_of n (drop (at + 4) bs)
+pub words_more : (n at : ℕ) (bs : List ℕ) → at + 4 ≤ length bs → words_of (suc n) (drop at bs)
+    ≡ word_at bs at ∷ words_of n (drop (at + 4) bs)
 unfolding words_of
 words_more n at bs h = rw (word_there bs at h, drop-drop 4 at bs)
 

@@ -1,5 +1,6 @@
 -- What bytes say as a command, or their refusal (paper 01, "DemoRad" and "Refusal numbers").
-use Rattle.std.specs.Prelude.{Bool, false, cond, not, List, [], ◌∷◌, ◌++◌, ℕ, zero, suc, ◌-◌, ◌*◌, ◌/◌, ◌%◌, ◌^◌, eqb, ltb, length, take, drop, replicate}
+use Rattle.std.specs.Prelude.{Bool, false, cond, not, List, [], ◌∷◌, ◌++◌, ℕ, zero, suc, ◌-◌, ◌*◌, ◌/◌, ◌%◌, ◌^◌, eqb, ltb, length}
+use Rattle.std.specs.Prelude.{take, drop, replicate}
 use Rattle.digits.specs.LittleEndian.{from_little, word_at}
 use Rattle.demorad.specs.Rules.{max_payload, legality}
 use Rattle.demorad.specs.declared.Command.{Command}

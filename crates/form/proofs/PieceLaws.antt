@@ -36,7 +36,8 @@ byte_ends r t f at bs h = rw (drop_of_length-le bs {i = at} h)
 
 -- a four-byte node whose bytes are there
 pub word_step : (r : ℕ → ℕ) (t : ℕ → Bool) (f : ℕ → Form) (at : ℕ) (bs : List ℕ) → at + 4 ≤ length bs
-    → judge_at (word r t f) at bs ≡ cond (t (little_at 4 at bs)) (judge_at (f (little_at 4 at bs)) (at + 4) bs) (Bad (r (little_at 4 at bs)))
+    → judge_at (word r t f) at bs ≡ cond (t (little_at 4 at bs)) (judge_at (f (little_at 4 at bs)) (at + 4) bs)
+        (Bad (r (little_at 4 at bs)))
 unfolding judge
 word_step r t f at bs h = rw (drop_four bs at h)
 
@@ -49,7 +50,8 @@ word_short r t f at (a ∷ b ∷ c ∷ []) h = refl
 word_short r t f at (a ∷ b ∷ c ∷ d ∷ xs) h = absurd (omega arith)
 
 -- a four-byte node whose fourth byte is not there
-pub word_ends : (r : ℕ → ℕ) (t : ℕ → Bool) (f : ℕ → Form) (at : ℕ) (bs : List ℕ) → length bs < at + 4 → judge_at (word r t f) at bs ≡ Waiting
+pub word_ends : (r : ℕ → ℕ) (t : ℕ → Bool) (f : ℕ → Form) (at : ℕ) (bs : List ℕ) → length bs < at + 4
+    → judge_at (word r t f) at bs ≡ Waiting
 word_ends r t f at bs h = word_short r t f at (drop at bs) (simp length-drop (omega arith))
 
 -- -- A piece, and then another
@@ -104,7 +106,8 @@ seq_any (byte r t f) h at bs = seq_byte r t f h at bs (seq_any (f (get_or bs at 
 seq_any (word r t f) h at bs = seq_word r t f h at bs (seq_any (f (little_at 4 at bs)) h (at + 4) bs)
 
 -- the judgement of two pieces is that of the first and then of the second, from the end of the first
-pub seq : (p : Form) (h : ℕ → Form) (at : ℕ) (bs : List ℕ) → judge_at (p >>= h) at bs ≡ after (judge_at p at bs) (λ v e. judge_at (h v) e bs)
+pub seq : (p : Form) (h : ℕ → Form) (at : ℕ) (bs : List ℕ) → judge_at (p >>= h) at bs
+    ≡ after (judge_at p at bs) (λ v e. judge_at (h v) e bs)
 unfolding Seq
 seq p h at bs = seq_any p h at bs
 

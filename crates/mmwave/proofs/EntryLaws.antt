@@ -183,7 +183,8 @@ module _ (P : Profile) (n seen k room p : ℕ) (bs : List ℕ) where
     passes = type_passes_lem P n seen (suc k) room T fresh-passes type-ok
 
     -- a payload length that is refused
-    pub length_refuses : NotTaken (length_ok P (P.rule T n) (suc k) room) (p + 4) bs → judge_at (records P n seen (suc k) room) p bs ≡ Bad 24
+    pub length_refuses : NotTaken (length_ok P (P.rule T n) (suc k) room) (p + 4) bs
+        → judge_at (records P n seen (suc k) room) p bs ≡ Bad 24
     unfolding records
     length_refuses f = let h = f.0 in
         field_on (type_reason P seen) (type_passes P n seen (suc k) room) _ p bs (omega arith, passes)

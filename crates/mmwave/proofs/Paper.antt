@@ -68,7 +68,8 @@ module _ (P : Profile) (S : Sound P) (W : Sentences) (says : Says P W) where
   none_again none = tt
   none_again {bs = bs} {ts = ts} (more {p = p} f l r) = ((fresh_exactly ts (little_at 4 p bs)).0 f, none_again r)
 
-  words_back : {bs : List ℕ} {n : ℕ} {ts : List ℕ} {k p e : ℕ} → RecordsTo W bs n k p e → NoneAgain W ts (types_from bs k p) → Records P bs n ts k p e
+  words_back : {bs : List ℕ} {n : ℕ} {ts : List ℕ} {k p e : ℕ} → RecordsTo W bs n k p e → NoneAgain W ts (types_from bs k p)
+      → Records P bs n ts k p e
   unfolding NoneAgain types_from
   words_back none_paper a = none
   words_back {bs = bs} {n = n} {ts = ts} (more_paper {p = p} l r) a =

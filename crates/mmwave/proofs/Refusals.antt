@@ -81,7 +81,8 @@ module _ (P : Profile) (bs : List ℕ) (r : ℕ) where
       (λ i. records_refused (type ∷ ts) k i.1 (room - i.0) (reached_next c i.2) i.3))
 
   -- the header, field by field
-  subframe_refused : HoldsBefore P bs 36 → judge_at (behind_count P bs (little_at 4 28 bs) (little_at 4 32 bs)) 36 bs ≡ Bad r → Refused P bs r
+  subframe_refused : HoldsBefore P bs 36 → judge_at (behind_count P bs (little_at 4 28 bs) (little_at 4 32 bs)) 36 bs ≡ Bad r
+      → Refused P bs r
   unfolding seen_in
   subframe_refused b w = either (field_refused (always 26) P.subframe (λ _. records_behind P bs) 36 bs r w)
       (λ f. refused_as 26 f.0 (at_subframe b f.1.0 f.1.1))

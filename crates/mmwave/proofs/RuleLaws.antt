@@ -240,7 +240,8 @@ pub reason_type : {t b : Bool} → t ≡ b → t ≡ false → ◌≡◌ {A = �
 reason_type e h = ap (λ (b : Bool). cond b 24 23) (sym h ∙ e)
 
 -- a length that passes is one that lets its type pass
-pub length_type : (P : Profile) (rule : Rule) (k room m : ℕ) → (k ≡ 0 → ⊥) → length_ok P rule k room m ≡ true → possible P k room rule ≡ true
+pub length_type : (P : Profile) (rule : Rule) (k room m : ℕ) → (k ≡ 0 → ⊥) → length_ok P rule k room m ≡ true
+    → possible P k room rule ≡ true
 unfolding length_ok
 length_type P rule zero room m n h = absurd (n refl)
 length_type P rule (suc k) room m n h = let g = and_parts (legal rule m) (fits P (suc k) room m) h in

@@ -95,7 +95,8 @@ module _ (P : Profile) {n seen k room at : ℕ} {bs : List ℕ} {type mark : ℕ
       ∙ ap (length_ok P rule k room) (sym first.length_is) ∙ sym first.test_is ∙ e
 
   -- the length does not pass: the type is refused, or else the length
-  pub settled_refused : {r : ℕ} → l ≡ false → r ≡ cond (type_ok P n k room type) 24 23 → at + 8 ≤ length bs → Settles P n seen k room at bs r
+  pub settled_refused : {r : ℕ} → l ≡ false → r ≡ cond (type_ok P n k room type) 24 23 → at + 8 ≤ length bs
+      → Settles P n seen k room at bs r
   unfolding settled
   settled_refused {r} e r-is h =
       go k first.type_read.some (type_ok P n k room T) refl (length_says false e)
@@ -213,7 +214,8 @@ module _ (P : Profile) (bs : List ℕ) (there : 40 ≤ length bs) where
 
 -- the first eight of the bytes
 eight : (bs : List ℕ) → 8 ≤ length bs
-    → take 8 bs ≡ get_or bs 0 0 ∷ get_or bs 1 0 ∷ get_or bs 2 0 ∷ get_or bs 3 0 ∷ get_or bs 4 0 ∷ get_or bs 5 0 ∷ get_or bs 6 0 ∷ get_or bs 7 0 ∷ []
+    → take 8 bs ≡ get_or bs 0 0 ∷ get_or bs 1 0 ∷ get_or bs 2 0 ∷ get_or bs 3 0 ∷ get_or bs 4 0 ∷ get_or bs 5 0 ∷ get_or bs 6 0 ∷ get_or
+        bs 7 0 ∷ []
 eight [] h = absurd (omega arith)
 eight (a ∷ []) h = absurd (omega arith)
 eight (a ∷ b ∷ []) h = absurd (omega arith)

@@ -129,7 +129,8 @@ module _ (judge : List ℕ → Judgement) (L : Lawful judge) (closed : Bool) (B 
       → let r = read judge closed pass at room A in
       read judge closed pass at (length r.rows + more) (A ++ B) ≡ joined r (rest judge closed at more (A ++ B) r.next)
   unfolding read
-  resumes pass at room more [] h = let z : pass ≡ 0 = omega arith in rw (z, zero-add more) (rest_stop judge closed at more (at_end closed) B)
+  resumes pass at room more [] h = let z : pass ≡ 0 = omega arith in
+      rw (z, zero-add more) (rest_stop judge closed at more (at_end closed) B)
   resumes zero at room more (b ∷ A) h =
       resumes_place closed (judge (b ∷ A)) (judge (b ∷ A ++ B)) at room more _ _ (rest judge closed at more (b ∷ A ++ B))
       (λ state. rest_stop judge closed at more state (b ∷ A ++ B))

@@ -36,7 +36,8 @@ unfolding lay ◌>>=◌
 head_form at s = refl
 
 -- format and gain, 20 digits, the stop marker
-pub status_form : (at : ℕ) (s : List ℕ) → judge_at (row u_pieces 5) at s ≡ judge_at (head >>= (λ _. run 20 Hex >>= (λ _. row ending 5))) at s
+pub status_form : (at : ℕ) (s : List ℕ) → judge_at (row u_pieces 5) at s
+    ≡ judge_at (head >>= (λ _. run 20 Hex >>= (λ _. row ending 5))) at s
 unfolding lay row run ◌>>=◌
 status_form at s = refl
 
@@ -136,7 +137,8 @@ module _ (at : ℕ) (s : List ℕ) where
   pub block_target : at < length s → (get_or s at 0 ≡ 0 → ⊥) → judge_at block at s ≡ judge_at target at s
   block_target l n =
       let t = ne_eqb (get_or s at 0) 0 n in
-      let a : judge_at block at s ≡ cond (is_hex (get_or s at 0)) (judge_at (lay behind_number 0) (at + 1) s) (Bad 12) = rw t at (block_step l) in
+      let a : judge_at block at s ≡ cond (is_hex (get_or s at 0)) (judge_at (lay behind_number 0) (at + 1) s) (Bad 12) = rw t at
+          (block_step l) in
       a ∙ sym (target_step l)
 
   -- fourteen bytes of value 0 are one

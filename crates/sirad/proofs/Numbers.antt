@@ -55,7 +55,8 @@ number_fits i n v h l e = lt_of_lt_of_le e (pow-le-pow_right {n = 16} (omega ari
 module _ (n i v at : ℕ) (s : List ℕ) where
   -- no digit is there
   pub number_ends : i < n → length s ≤ at → Waiting ≡ judge_at (number (n - i) v) at s
-  number_ends h l = sym (number_first (n - i) v at s (omega arith) ∙ byte_ends 12 is_hex (λ b. number (n - i - 1) (v * 16 + digit b)) at s l)
+  number_ends h l = sym (number_first (n - i) v at s (omega arith)
+      ∙ byte_ends 12 is_hex (λ b. number (n - i - 1) (v * 16 + digit b)) at s l)
 
   -- the next byte is no digit
   pub number_miss : i < n → at < length s → is_hex (get_or s at 0) ≡ false → Bad 12 ≡ judge_at (number (n - i) v) at s

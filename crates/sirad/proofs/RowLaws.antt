@@ -97,7 +97,8 @@ number_laid w h ds l (suc n) v at [] = refl
 number_laid w h ds l (suc n) v at (b ∷ bs) =
     ap (λ (j : Judgement). cond (is_hex b) j (Bad 12)) (number_laid w h ds l n (v * 16 + digit b) (at + 1) bs)
 
-sized_laid : (kind at : ℕ) (bs : List ℕ) → judge (sized kind) at bs ≡ judge (lay (classes (r_pieces (hex_from 0 (take 4 bs))) bs) kind) at bs
+sized_laid : (kind at : ℕ) (bs : List ℕ) → judge (sized kind) at bs
+    ≡ judge (lay (classes (r_pieces (hex_from 0 (take 4 bs))) bs) kind) at bs
 unfolding classes
 sized_laid kind at bs =
     number_laid kind (λ n. row (data_pieces n) kind) (λ n. classes (data_pieces n)) (λ n. row_laid (data_pieces n) kind) 4 0 at bs

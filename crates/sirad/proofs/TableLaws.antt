@@ -47,7 +47,8 @@ column_each f i (suc n) (b ∷ bs) p (suc j) l =
     let e : i + suc j ≡ suc i + j = omega arith in
     ap (λ (x : ℕ). accepts (f x) (get_or bs j 0)) e ∙ column_each f (suc i) n bs p.1 j (omega arith)
 
-each_column : (f : ℕ → Class) (i n : ℕ) (bs : List ℕ) → length bs ≡ n → ((j : ℕ) → j < length bs → accepts (f (i + j)) (get_or bs j 0) ≡ true)
+each_column : (f : ℕ → Class) (i n : ℕ) (bs : List ℕ) → length bs ≡ n
+    → ((j : ℕ) → j < length bs → accepts (f (i + j)) (get_or bs j 0) ≡ true)
     → Passes (column f i n) bs
 unfolding column Passes
 each_column f i zero [] l h = tt
@@ -209,7 +210,8 @@ sized_shape kind n all k =
       bytes = 14 + n;
       many = omega arith;
       whole_size = rw (le-leb kind 3 k) (omega arith);
-      column_is = rw (le-leb kind 3 k, e) (sized_column kind n all k (drop 2 all) ∙ ap (column (class_at kind (size kind n all k) all) 2) d);
+      column_is = rw (le-leb kind 3 k, e) (sized_column kind n all k (drop 2 all)
+          ∙ ap (column (class_at kind (size kind n all k) all) 2) d);
     }
 
 -- every kind has one

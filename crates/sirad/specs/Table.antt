@@ -102,6 +102,7 @@ pub record FirstFails (kind size at : ℕ) (bs : List ℕ) : Type 0 where
 -- the bytes are refused with this reason, by the table: the first byte that fails its check gives it (paper 01, "Judging a place")
 pub data Refused (bs : List ℕ) : ℕ → Type 0 where
   no_start : 1 ≤ length bs → (get_or bs 0 0 ≡ 33 → ⊥) → Refused bs 10
-  no_identifier : 2 ≤ length bs → get_or bs 0 0 ≡ 33 → ((kind : ℕ) → 1 ≤ kind → kind ≤ 6 → get_or bs 1 0 ≡ identifier kind → ⊥) → Refused bs 11
+  no_identifier : 2 ≤ length bs → get_or bs 0 0 ≡ 33 → ((kind : ℕ) → 1 ≤ kind → kind ≤ 6 → get_or bs 1 0 ≡ identifier kind → ⊥)
+      → Refused bs 11
   no_member : (kind at : ℕ) → 1 ≤ kind → kind ≤ 6 → get_or bs 0 0 ≡ 33 → get_or bs 1 0 ≡ identifier kind
       → FirstFails kind (total kind (hex_at 4 2 bs)) at bs → Refused bs (reason (class_at kind (total kind (hex_at 4 2 bs)) bs at))

@@ -82,7 +82,8 @@ module _ (bs : List ℕ) (q : ℕ) (h : q < 16) (f : BlockFrame bs) where
 -- -- The target read of it
 
 -- target q is that of block q
-target_of : (n q at : ℕ) (s : List ℕ) → q < n → get_or (targets_of n (values (blocks n) (drop at s))) q no_target ≡ target_at (at + 14 * q) s
+target_of : (n q at : ℕ) (s : List ℕ) → q < n → get_or (targets_of n (values (blocks n) (drop at s))) q no_target
+    ≡ target_at (at + 14 * q) s
 target_of zero q at s h = absurd (omega arith)
 target_of (suc n) zero at s h = let e : at + 14 * 0 ≡ at = omega arith in rw (block_target n at s, e)
 target_of (suc n) (suc q) at s h =
@@ -102,7 +103,8 @@ empty_exactly bs q r h =
     let k = targets_kind bs r in
     let f = (targets_by_blocks bs).0 (judged_frame sirad 4 bs (kind_whole 4 bs (omega arith) k)) in
     let read : get_or (targets_of 16 (values (blocks 16) (drop 4 bs))) q no_target ≡ target_at (4 + 14 * q) bs = target_of 16 q 4 bs h in
-    let same : get_or (read_targets bs).targets q no_target ≡ target_at (4 + 14 * q) bs = rw (k, drop-drop 1 2 bs, drop-drop 1 3 bs) read in (
+    let same : get_or (read_targets bs).targets q no_target ≡ target_at (4 + 14 * q) bs = rw
+        (k, drop-drop 1 2 bs, drop-drop 1 3 bs) read in (
       (λ e. empty_block bs q h f (empty_told (4 + 14 * q) bs (sym same ∙ e))),
       (λ z. same ∙ rw (block_empty bs q h f z)),
     )

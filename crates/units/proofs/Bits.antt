@@ -1,6 +1,9 @@
 -- A float's bits without the sign: they give exponent and fraction, and rise with the magnitude.
 -- 2 ^ -12 m has the bits 39800000, 1000 m has 447A0000 (a significand of 16384000 at scale 136), infinity has 7F800000.
-use Rattle.std.proofs.Common.{◌≡◌, ℕ, ◌+◌, ◌*◌, ◌%◌, ◌^◌, ◌<◌, ◌≤◌, eqb, ltb, leb, sym, ◌∙◌, le_trans, lt_of_lt_of_le, lt_of_le_of_lt, le_of_lt, mul-le-mul_right, mod-lt, mul-le-mul, mul-le-mul_left, mul-lt-mul_of_pos_right, arith, lit<, lit≤, pow_mono, ltb-false, ltb-true, le-ltb, lt-ltb, eq-eqb, ne_eqb, leb-false, leb-true}
+use Rattle.std.proofs.Common.{◌≡◌, ℕ, ◌+◌, ◌*◌, ◌%◌, ◌^◌, ◌<◌, ◌≤◌, eqb, ltb, leb, sym, ◌∙◌, le_trans, lt_of_lt_of_le}
+use Rattle.std.proofs.Common.{lt_of_le_of_lt, le_of_lt, mul-le-mul_right, mod-lt, mul-le-mul, mul-le-mul_left}
+use Rattle.std.proofs.Common.{mul-lt-mul_of_pos_right, arith, lit<, lit≤, pow_mono, ltb-false, ltb-true, le-ltb, lt-ltb, eq-eqb}
+use Rattle.std.proofs.Common.{ne_eqb, leb-false, leb-true}
 use Rattle.digits.proofs.Choices.{test}
 use Rattle.units.specs.Float.{exponent, fraction, not_finite, significand, scale, magnitude}
 

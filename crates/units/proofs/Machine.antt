@@ -1,5 +1,8 @@
 -- What the functions' proofs apply: the code's shifts and limits against the definitions, over plain variables.
-use Rattle.std.proofs.Common.{◌≡◌, ℕ, zero, suc, ◌+◌, ◌-◌, ◌*◌, ◌/◌, ◌%◌, ◌^◌, ◌<◌, ◌≤◌, Bool, true, false, ltb, leb, pos, ◌-ℤ◌, neg_ℤ, sym, refl, ap, ◌∙◌, lt_of_le_of_lt, mul_assoc, suc-mul, mul_comm, div-lt_iff_lt-mul, mul-le-mul, mul-le-mul_left, mul_left_comm, arith, lit<, pow_mono, pow-add, to_z-of_z, w32, SFits, to_z, of_z, ltb-false, ltb-true, le-ltb, lt-ltb, eq-eqb, ne_eqb, le-leb, leb-false, leb-true}
+use Rattle.std.proofs.Common.{◌≡◌, ℕ, zero, suc, ◌+◌, ◌-◌, ◌*◌, ◌/◌, ◌%◌, ◌^◌, ◌<◌, ◌≤◌, Bool, true, false, ltb, leb, pos, ◌-ℤ◌}
+use Rattle.std.proofs.Common.{neg_ℤ, sym, refl, ap, ◌∙◌, lt_of_le_of_lt, mul_assoc, suc-mul, mul_comm, div-lt_iff_lt-mul}
+use Rattle.std.proofs.Common.{mul-le-mul, mul-le-mul_left, mul_left_comm, arith, lit<, pow_mono, pow-add, to_z-of_z, w32, SFits}
+use Rattle.std.proofs.Common.{to_z, of_z, ltb-false, ltb-true, le-ltb, lt-ltb, eq-eqb, ne_eqb, le-leb, leb-false, leb-true}
 use native.Mathlib.Nat.{div-eq_of_lt}
 use borrow.Author.Tests.{lt-leb}
 use lib.IntN.{+ℤ_idl}

@@ -1,5 +1,6 @@
 -- A coordinate's millimetres rise with its bits: the magnitude with the bits without the sign, the nearest whole number with the value.
-use Rattle.std.proofs.Common.{◌≡◌, ℕ, ◌+◌, ◌*◌, ◌/◌, ◌%◌, ◌^◌, ◌<◌, ◌≤◌, ap, le_trans, mul-le-mul_right, mul-le-mul, le_antisymm, arith, pow_mono, pow-add, eq-eqb}
+use Rattle.std.proofs.Common.{◌≡◌, ℕ, ◌+◌, ◌*◌, ◌/◌, ◌%◌, ◌^◌, ◌<◌, ◌≤◌, ap, le_trans, mul-le-mul_right, mul-le-mul, le_antisymm}
+use Rattle.std.proofs.Common.{arith, pow_mono, pow-add, eq-eqb}
 use native.Mathlib.Decide.{dec_lt}
 use Rattle.units.specs.Float.{exponent, fraction, significand, scale, magnitude}
 use Rattle.units.specs.Rounding.{Ties, nearest}

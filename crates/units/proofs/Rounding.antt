@@ -1,7 +1,11 @@
 -- Rounding as a predicate and as a closed form: which whole numbers are nearest to a value, and which one the tie rule takes.
 -- A whole number either has the value's sign, or the other one and is not 0: along the sign `gap` is a distance of naturals, against it a
 -- sum. From there on everything is over ℕ.
-use Rattle.std.proofs.Common.{◌≡◌, ℕ, zero, suc, ◌+◌, ◌-◌, ◌*◌, ◌/◌, ◌%◌, ◌<◌, ◌≤◌, Bool, true, false, not, ltb, ◌⊎◌, ◌↔◌, ℤ, pos, negsuc, ◌+ℤ◌, ◌-ℤ◌, ◌*ℤ◌, neg_ℤ, nat_abs, sym, refl, ap, ◌∙◌, ap₂, inl, inr, mul-le-mul_right, mul_assoc, suc-mul, mul_comm, add-mul, le_antisymm, mul-le-mul_left, mul-pos, mul-zero, le-div_iff_mul-le, mul-suc, mul-add, mul_right_comm, div-mul-le_self, mul_left_comm, arith, ltb-false, ltb-true}
+use Rattle.std.proofs.Common.{◌≡◌, ℕ, zero, suc, ◌+◌, ◌-◌, ◌*◌, ◌/◌, ◌%◌, ◌<◌, ◌≤◌, Bool, true, false, not, ltb, ◌⊎◌, ◌↔◌, ℤ, pos}
+use Rattle.std.proofs.Common.{negsuc, ◌+ℤ◌, ◌-ℤ◌, ◌*ℤ◌, neg_ℤ, nat_abs, sym, refl, ap, ◌∙◌, ap₂, inl, inr, mul-le-mul_right}
+use Rattle.std.proofs.Common.{mul_assoc, suc-mul, mul_comm, add-mul, le_antisymm, mul-le-mul_left, mul-pos, mul-zero}
+use Rattle.std.proofs.Common.{le-div_iff_mul-le, mul-suc, mul-add, mul_right_comm, div-mul-le_self, mul_left_comm, arith, ltb-false}
+use Rattle.std.proofs.Common.{ltb-true}
 use native.Mathlib.Nat.{mul-div-mul_right}
 use native.Mathlib.Nat.{lt-div-mul-add, div-eq_of_lt-le}
 use lib.IntN.{neg_ℤ-neg_ℤ, neg_ℤ-+ℤ}

@@ -1,5 +1,6 @@
 -- The number rules round as paper 01, "Numbers", says: each is the theorem on rounding at the rule's own fraction.
-use Rattle.std.proofs.Common.{◌≡◌, ℕ, suc, ◌*◌, ◌^◌, ◌<◌, ◌≤◌, Bool, true, false, cond, eqb, ltb, ◌⊎◌, ◌↔◌, ℤ, pos, ◌≤ℤ◌, sym, refl, ap, ◌∙◌, inl, inr, arith, lit<, le→leb, ltb-false, ltb-true, le-ltb, lt-ltb, eq-eqb, ne_eqb, eqb-true}
+use Rattle.std.proofs.Common.{◌≡◌, ℕ, suc, ◌*◌, ◌^◌, ◌<◌, ◌≤◌, Bool, true, false, cond, eqb, ltb, ◌⊎◌, ◌↔◌, ℤ, pos, ◌≤ℤ◌, sym, refl}
+use Rattle.std.proofs.Common.{ap, ◌∙◌, inl, inr, arith, lit<, le→leb, ltb-false, ltb-true, le-ltb, lt-ltb, eq-eqb, ne_eqb, eqb-true}
 use borrow.Author.Tests.{eqb-false}
 use Rattle.digits.specs.Bytes.{is_character}
 use Rattle.digits.proofs.Choices.{test, either, both_ways, within_bounds}

@@ -19,4 +19,5 @@ overflow_add-limit c = let small = c.greatest-bits.ensures.small in omega arith
 
 pub returns : goal.returns
 returns c =
-    bound_found _ _ _ c.coordinate_to_millimetres-nought.ensures _ c.if-nought-ne0.false c.if-distance-gt-MAX_DISTANCE.false c.greatest-bits.ensures
+    bound_found _ _ _ c.coordinate_to_millimetres-nought.ensures _ c.if-nought-ne0.false c.if-distance-gt-MAX_DISTANCE.false
+        c.greatest-bits.ensures
