@@ -304,7 +304,7 @@ abbrev pub RefusedLineIsEmpty : Type 0
 RefusedLineIsEmpty =
     (number : ℕ) (main standby : List ℕ) (closed : Bool) (room : ℕ)
     → (((read_answer (dialect_of number) closed main room).refusal ≡ 0)
-        × ((read_answer (dialect_of number) closed standby room).refusal ≡ 0)
+    × ((read_answer (dialect_of number) closed standby room).refusal ≡ 0)
     → ⊥) → part_of (dialect_of number) main standby ≡ empty_part
 
 -- -- Bytes as the port gives them (paper 02, (iii))

@@ -278,7 +278,7 @@ module _ (rd : Bool) (code count : ℕ) (words out : List ℕ) where
       go (no d) l = rw (ne_eqb (legality code count words) 0 d) (refused_values d)
       go (yes d) (yes l) =
           rw (eq-eqb (legality code count words) 0 d, le-leb (length (command_bytes rd code count words)) (length out) l)
-              (nothing_fails d l)
+          (nothing_fails d l)
       go (yes d) (no l) =
           rw (eq-eqb (legality code count words) 0 d, lt-leb (length (command_bytes rd code count words)) (length out) (omega arith))
           (no_output d (omega arith))

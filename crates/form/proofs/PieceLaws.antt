@@ -37,7 +37,7 @@ byte_ends r t f at bs h = rw (drop_of_length-le bs {i = at} h)
 -- a four-byte node whose bytes are there
 pub word_step : (r : ℕ → ℕ) (t : ℕ → Bool) (f : ℕ → Form) (at : ℕ) (bs : List ℕ) → at + 4 ≤ length bs
     → judge_at (word r t f) at bs ≡ cond (t (little_at 4 at bs)) (judge_at (f (little_at 4 at bs)) (at + 4) bs)
-        (Bad (r (little_at 4 at bs)))
+    (Bad (r (little_at 4 at bs)))
 unfolding judge
 word_step r t f at bs h = rw (drop_four bs at h)
 

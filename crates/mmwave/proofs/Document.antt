@@ -15,7 +15,7 @@ use Rattle.form.proofs.PieceLaws.{seq_inverse, free_inverse, marker_inverse, go_
 use Rattle.form.proofs.PieceLaws.{free_whole, frees_whole, marker_whole}
 use Rattle.form.proofs.FieldLaws.{field_on, field_read, frees_read}
 use Rattle.form.proofs.Theorems.{frame_whole, judged_frame}
-use Rattle.mmwave.specs.Profile.{Profile, legal, count_ok, fits, fresh, type_ok, length_ok, see, seen_in, Leaves}
+use Rattle.mmwave.specs.Profile.{Profile, legal, count_ok, fits, type_ok, length_ok, seen_in, Leaves}
 use Rattle.mmwave.specs.Packet.{magic, last, records, counted, packet}
 use Rattle.mmwave.specs.Document.{Records, none, more, Laid, HoldsBefore, Reached, next}
 use Rattle.mmwave.proofs.RecordLaws.{length_both}

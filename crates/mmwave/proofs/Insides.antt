@@ -1,5 +1,4 @@
 -- Where a packet's bytes end inside a four-byte field, by offsets, for any profile.
-use mathlib.Core.Bool.{true}
 use mathlib.Core.Path.{◌≡◌, sym}
 use mathlib.Core.List.{List, [], ◌∷◌}
 use mathlib.Core.Logic.{◌↔◌, ◌⊎◌, inl, inr}

@@ -9,7 +9,7 @@ use native.Mathlib.Omega.{arith}
 use lib.ListN.{length}
 use Rattle.digits.specs.LittleEndian.{little_at}
 use Rattle.form.specs.Form.{Frame}
-use Rattle.mmwave.specs.Profile.{Profile, legal, fresh, see, seen_in, Sound, Fair}
+use Rattle.mmwave.specs.Profile.{Profile, legal, fresh, seen_in, Sound, Fair}
 use Rattle.mmwave.specs.Packet.{magic, packet}
 use Rattle.mmwave.specs.Document.{Records, none, more, Laid}
 use Rattle.mmwave.specs.Paper.{Sentences, RecordsTo, types_from, Packet, NoneExcludes}

@@ -1,9 +1,8 @@
 -- The judgement is bad with a reason exactly if the check of that reason is the first to fail. The idea: what the checks have passed moves
 -- the judgement on to the rest, from its offset.
-use mathlib.Core.Bool.{true}
-use mathlib.Core.Path.{◌≡◌, refl, sym, ◌∙◌}
+use mathlib.Core.Path.{◌≡◌, refl, ◌∙◌}
 use mathlib.Core.List.{List, [], ◌∷◌}
-use mathlib.Core.Logic.{◌↔◌, ◌⊎◌, inl, inr}
+use mathlib.Core.Logic.{◌↔◌, inl, inr}
 use Prim.Native.Nat.{ℕ, zero, suc, ◌+◌, ◌-◌, ◌≤◌}
 use native.Mathlib.Omega.{arith}
 use lib.ListN.{length}
@@ -20,7 +19,7 @@ use Rattle.mmwave.specs.Packet.{magic, last, records, counted, packet}
 use Rattle.mmwave.specs.Document.{HoldsBefore, Reached, first, next, Refused}
 use Rattle.mmwave.specs.Document.{at_magic, at_total, at_objects, at_count, at_subframe, at_repeat, at_type, at_length}
 use Rattle.mmwave.proofs.RecordLaws.{TypeFailed, type_passed, type_repeats, type_unfit}
-use Rattle.mmwave.proofs.EntryLaws.{rest_not_refused, EntryRead, entry_refused, type_refuses, length_refuses, entry_on}
+use Rattle.mmwave.proofs.EntryLaws.{rest_not_refused, entry_refused, type_refuses, length_refuses, entry_on}
 use Rattle.mmwave.proofs.Document.{reached_next, holds_magic, holds_total, holds_objects, holds_count, holds_subframe}
 use Rattle.mmwave.proofs.Document.{behind_objects, behind_count, records_behind, total_on, objects_on, count_on, subframe_on, header_on}
 

@@ -215,7 +215,7 @@ module _ (P : Profile) (bs : List ℕ) (there : 40 ≤ length bs) where
 -- the first eight of the bytes
 eight : (bs : List ℕ) → 8 ≤ length bs
     → take 8 bs ≡ get_or bs 0 0 ∷ get_or bs 1 0 ∷ get_or bs 2 0 ∷ get_or bs 3 0 ∷ get_or bs 4 0 ∷ get_or bs 5 0 ∷ get_or bs 6 0 ∷ get_or
-        bs 7 0 ∷ []
+    bs 7 0 ∷ []
 eight [] h = absurd (omega arith)
 eight (a ∷ []) h = absurd (omega arith)
 eight (a ∷ b ∷ []) h = absurd (omega arith)

@@ -138,7 +138,7 @@ module _ (at : ℕ) (s : List ℕ) where
   block_target l n =
       let t = ne_eqb (get_or s at 0) 0 n in
       let a : judge_at block at s ≡ cond (is_hex (get_or s at 0)) (judge_at (lay behind_number 0) (at + 1) s) (Bad 12) = rw t at
-          (block_step l) in
+      (block_step l) in
       a ∙ sym (target_step l)
 
   -- fourteen bytes of value 0 are one

@@ -1,6 +1,5 @@
 -- `capture_judge::judge_from` meets its contract. The part from an offset on is the bytes without those in front.
 use mathlib.Core.Path.{ap, ◌∙◌}
-use borrow.Author.Rules.{rules}
 use Rattle.capture.specs.Dialects.{judge_of}
 use Rattle.form.proofs.PieceLaws.{judges}
 use Rattle.digits.proofs.Lists.{part_drop}

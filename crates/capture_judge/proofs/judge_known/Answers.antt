@@ -1,5 +1,4 @@
 -- `capture_judge::judge_known` meets its contract.
-use borrow.Author.Rules.{rules}
 use Rattle.capture.proofs.EntryLaws.{verdict_long, verdict_beyond, verdict_judged}
 use Rattle.capture_judge.proofs.judge_known.Goals as goal
 

@@ -1,6 +1,5 @@
 -- `capture_lines::choose_known` meets its contract. A first row of size 0 is no row.
 use mathlib.Core.Path.{◌∙◌}
-use borrow.Author.Rules.{rules}
 use Rattle.capture.proofs.LineLaws.{main_long, standby_long, main_first, standby_first, neither_first}
 use Rattle.capture_lines.proofs.choose_known.Goals as goal
 

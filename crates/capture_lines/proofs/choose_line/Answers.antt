@@ -2,7 +2,6 @@
 -- of it.
 use mathlib.Core.Path.{refl}
 use native.Mathlib.Omega.{arith}
-use borrow.Author.Rules.{rules}
 use Rattle.capture.proofs.LineLaws.{ends_in, refers}
 use Rattle.capture.specs.Dialects.{dialect_of}
 use Rattle.capture_lines.proofs.choose_line.Goals as goal

@@ -1,5 +1,4 @@
 -- `capture_lines::first_frame` meets its contract. A table of three zeros becomes the first row, or stays.
-use borrow.Author.Rules.{rules}
 use native.Mathlib.Omega.{arith}
 use Rattle.capture.proofs.LineLaws.{first_stored}
 use Rattle.capture_lines.proofs.first_frame.Goals as goal

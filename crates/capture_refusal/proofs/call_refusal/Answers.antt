@@ -2,7 +2,6 @@
 use mathlib.Core.Path.{sym, ◌∙◌}
 use borrow.Author.Tests.{ltb-false}
 use Rattle.capture.proofs.FeedLaws.{refuses_3, refuses_read}
-use borrow.Author.Rules.{rules}
 use Rattle.capture_refusal.proofs.call_refusal.Goals as goal
 
 pub returns-then-too_long : goal.returns-then-too_long

@@ -1,7 +1,6 @@
 -- `capture_refusal::reading_refusal` meets its contract. One law for each answer.
 use native.Mathlib.Omega.{arith}
 use Rattle.capture.proofs.FeedLaws.{refuses_none, counted_within, refuses_61, refuses_60, refuses_0}
-use borrow.Author.Rules.{rules}
 use Rattle.capture_refusal.proofs.reading_refusal.Goals as goal
 
 pub returns-then-is_sure : goal.returns-then-is_sure

@@ -1,9 +1,5 @@
 -- `capture_scan::few` meets its contract. The bytes passed so far are clear of the mark; it stops at a mark or at the end of its look.
-use borrow.Author.Rules.{rules}
 use native.Mathlib.Omega.{arith}
-use Prim.Native.Nat.{◌≤◌, ◌-◌}
-use lib.ListN.{length}
-use Rattle.capture.specs.Internal.{Clear}
 use Rattle.capture.proofs.ScanLaws.{clear_none, clear_join, clear_one}
 use Rattle.capture_scan.proofs.few.Goals as goal
 

@@ -1,9 +1,6 @@
-use borrow.Author.Rules.{rules}
-use native.Mathlib.Omega.{arith}
 use Prim.Native.Nat.{◌≤◌, ◌-◌}
 use lib.ListN.{length}
 use Rattle.capture.specs.Internal.{Clear}
-use Rattle.capture.proofs.ScanLaws.{clear_none, clear_join, clear_one}
 use Rattle.capture_scan.proofs.few.Given as goal
 
 abbrev pub invariant-loop-at : goal.invariant-loop-at

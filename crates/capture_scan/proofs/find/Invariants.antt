@@ -1,10 +1,6 @@
-use mathlib.Core.Path.{sym, ◌∙◌}
-use borrow.Author.Rules.{rules}
-use native.Mathlib.Omega.{arith}
 use Prim.Native.Nat.{◌≤◌, ◌-◌}
 use lib.ListN.{length}
 use Rattle.capture.specs.Internal.{Clear}
-use Rattle.capture.proofs.ScanLaws.{clear_none, clear_join, clear_true, next_beyond, next_at, stops_at_mark}
 use Rattle.capture_scan.proofs.find.Given as goal
 
 abbrev pub invariant-loop-at : goal.invariant-loop-at

@@ -1,7 +1,6 @@
 -- `capture_scan::misses` meets its contract. The flag is the test of the bytes passed so far.
 use mathlib.Core.Path.{◌≡◌, subst}
-use Prim.Native.Nat.{ℕ, ◌≤◌, ◌-◌}
-use borrow.Author.Rules.{rules}
+use Prim.Native.Nat.{ℕ}
 use native.Mathlib.Omega.{arith}
 use Rattle.capture.proofs.ScanLaws.{clear_start, clear_next}
 use Rattle.capture.specs.Internal.{clear_for}

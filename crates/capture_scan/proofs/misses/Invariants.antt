@@ -1,8 +1,5 @@
-use mathlib.Core.Path.{◌≡◌, subst}
-use Prim.Native.Nat.{ℕ, ◌≤◌, ◌-◌}
-use borrow.Author.Rules.{rules}
-use native.Mathlib.Omega.{arith}
-use Rattle.capture.proofs.ScanLaws.{clear_start, clear_next}
+use mathlib.Core.Path.{◌≡◌}
+use Prim.Native.Nat.{◌≤◌, ◌-◌}
 use Rattle.capture.specs.Internal.{clear_for}
 use Rattle.capture_scan.proofs.misses.Given as goal
 

@@ -1,5 +1,4 @@
 -- `capture_scan::starts_again` meets its contract: one law for each way out.
-use borrow.Author.Rules.{rules}
 use native.Mathlib.Omega.{arith}
 use Rattle.capture.proofs.ScanLaws.{again_none, again_last, again_second, again_third}
 use Rattle.capture_scan.proofs.starts_again.Goals as goal

@@ -1,6 +1,5 @@
 -- `case_input::case_at` meets its contract: a case that ends behind the offset ends within the input, and behind its length.
 use native.Mathlib.Omega.{arith}
-use borrow.Author.Rules.{rules}
 use Rattle.case_input.proofs.CaseLaws.{end_within, end_behind, slice_none, slice_there}
 use Rattle.case_input.proofs.case_at.Goals as goal
 

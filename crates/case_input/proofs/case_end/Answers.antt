@@ -2,7 +2,6 @@
 use mathlib.Core.Path.{◌∙◌, ap}
 use Prim.Native.Nat.{◌+◌}
 use native.Mathlib.Omega.{arith}
-use borrow.Author.Rules.{rules}
 use Rattle.case_input.proofs.CaseLaws.{end_none, end_there}
 use Rattle.case_input.proofs.case_end.Goals as goal
 

@@ -1,9 +1,7 @@
 -- `coordinate_bounds::greatest` meets its contract: each turn halves the bits between one that is within and one that is not.
 use native.Mathlib.Omega.{arith}
-use Prim.Native.Nat.{◌-◌}
-use borrow.Author.Rules.{rules}
 use mathlib.Core.Path.{sym, ◌∙◌}
-use Rattle.coordinate_bounds.proofs.BoundLaws.{Narrowed, narrowed_start, narrowed_up, narrowed_down, narrowed_end}
+use Rattle.coordinate_bounds.proofs.BoundLaws.{narrowed_start, narrowed_up, narrowed_down, narrowed_end}
 use Rattle.coordinate_bounds.proofs.greatest.Goals as goal
 
 pub loop-low-init : goal.loop-low-init

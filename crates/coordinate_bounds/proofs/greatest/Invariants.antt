@@ -1,8 +1,5 @@
-use native.Mathlib.Omega.{arith}
 use Prim.Native.Nat.{◌-◌}
-use borrow.Author.Rules.{rules}
-use mathlib.Core.Path.{sym, ◌∙◌}
-use Rattle.coordinate_bounds.proofs.BoundLaws.{Narrowed, narrowed_start, narrowed_up, narrowed_down, narrowed_end}
+use Rattle.coordinate_bounds.proofs.BoundLaws.{Narrowed}
 use Rattle.coordinate_bounds.proofs.greatest.Given as goal
 
 abbrev pub invariant-loop-low : goal.invariant-loop-low

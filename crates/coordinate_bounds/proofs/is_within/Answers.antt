@@ -1,5 +1,4 @@
 -- `coordinate_bounds::is_within` meets its contract: a float without a sign has no negative millimetres.
-use borrow.Author.Rules.{rules}
 use Rattle.coordinate_bounds.proofs.BoundLaws.{refused_not_within, natural, measured}
 use Rattle.coordinate_bounds.proofs.is_within.Goals as goal
 

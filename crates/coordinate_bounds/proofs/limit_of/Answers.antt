@@ -1,6 +1,5 @@
 -- `coordinate_bounds::limit_of` meets its contract: 32, then 33, else what the search ends at.
 use native.Mathlib.Omega.{arith}
-use borrow.Author.Rules.{rules}
 use Rattle.coordinate_bounds.proofs.BoundLaws.{bound_no_edition, bound_too_distant, bound_found}
 use Rattle.coordinate_bounds.proofs.limit_of.Goals as goal
 
@@ -20,4 +19,4 @@ overflow_add-limit c = let small = c.greatest-bits.ensures.small in omega arith
 pub returns : goal.returns
 returns c =
     bound_found _ _ _ c.coordinate_to_millimetres-nought.ensures _ c.if-nought-ne0.false c.if-distance-gt-MAX_DISTANCE.false
-        c.greatest-bits.ensures
+    c.greatest-bits.ensures

@@ -1,7 +1,6 @@
 -- Each return is one case of the framing.
 use native.Mathlib.Omega.{arith}
 use Rattle.demorad.proofs.ReadingLaws.{framing_short, at_rest, at_empty, at_size, at_fine}
-use borrow.Author.Rules.{rules}
 use Rattle.demorad_read.proofs.framing_of.Goals as goal
 
 pub returns-then-bytes-lt4 : goal.returns-then-bytes-lt4

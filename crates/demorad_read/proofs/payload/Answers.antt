@@ -1,10 +1,7 @@
 -- The words stored so far, and the words that are left stored behind them, are the padded payload.
-use mathlib.Core.Path.{◌≡◌, refl}
-use Prim.Native.Nat.{◌+◌, ◌-◌, ◌*◌, ◌≤◌}
+use mathlib.Core.Path.{refl}
 use native.Mathlib.Omega.{arith}
 use lib.ListN.{drop}
-use lib.Seq.{sets}
-use Rattle.demorad.specs.Reading.{words_of, padded}
 use Rattle.demorad.proofs.ReadingLaws.{payload_starts, payload_turns, payload_ends}
 use Rattle.demorad_read.proofs.payload.Goals as goal
 

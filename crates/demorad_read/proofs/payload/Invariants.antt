@@ -1,10 +1,8 @@
-use mathlib.Core.Path.{◌≡◌, refl}
+use mathlib.Core.Path.{◌≡◌}
 use Prim.Native.Nat.{◌+◌, ◌-◌, ◌*◌, ◌≤◌}
-use native.Mathlib.Omega.{arith}
 use lib.ListN.{drop}
 use lib.Seq.{sets}
 use Rattle.demorad.specs.Reading.{words_of, padded}
-use Rattle.demorad.proofs.ReadingLaws.{payload_starts, payload_turns, payload_ends}
 use Rattle.demorad_read.proofs.payload.Given as goal
 
 abbrev pub invariant-loop-i : goal.invariant-loop-i

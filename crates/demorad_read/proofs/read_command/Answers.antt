@@ -4,7 +4,6 @@ use Prim.Native.Nat.{ℕ, ◌-◌}
 use native.Mathlib.Omega.{arith}
 use Rattle.demorad.specs.Reading.{length_of, header_of}
 use Rattle.demorad.proofs.ReadingLaws.{is_framed, read_unframed, read_illegal, read_done}
-use borrow.Author.Rules.{rules}
 use Rattle.demorad_read.proofs.read_command.Goals as goal
 
 pub returns-then-unframed-ne0 : goal.returns-then-unframed-ne0

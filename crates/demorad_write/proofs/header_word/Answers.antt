@@ -1,6 +1,5 @@
 -- The header with RD and without it.
 use Rattle.demorad.proofs.WritingLaws.{header_set, header_clear}
-use borrow.Author.Rules.{rules}
 use Rattle.demorad_write.proofs.header_word.Goals as goal
 
 pub returns-then-rd : goal.returns-then-rd

@@ -1,11 +1,8 @@
 -- Storing the words that are left gives what storing all of them gave.
 use mathlib.Core.Path.{◌≡◌, refl, ap, ◌∙◌}
-use Prim.Native.Nat.{◌+◌, ◌-◌, ◌*◌, ◌≤◌}
 use native.Mathlib.Omega.{arith}
-use lib.ListN.{length, take, drop, get_or}
-use Rattle.digits.specs.Stores.{stored}
+use lib.ListN.{length, get_or}
 use Rattle.digits.proofs.StoreLaws.{length_word_stored}
-use Rattle.demorad.specs.Image.{word_bytes}
 use Rattle.demorad.proofs.WritingLaws.{put_turns, put_ends}
 use Rattle.demorad_write.proofs.put_payload.Goals as goal
 

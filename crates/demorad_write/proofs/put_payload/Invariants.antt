@@ -1,11 +1,8 @@
-use mathlib.Core.Path.{◌≡◌, refl, ap, ◌∙◌}
+use mathlib.Core.Path.{◌≡◌}
 use Prim.Native.Nat.{◌+◌, ◌-◌, ◌*◌, ◌≤◌}
-use native.Mathlib.Omega.{arith}
-use lib.ListN.{length, take, drop, get_or}
+use lib.ListN.{length, take, drop}
 use Rattle.digits.specs.Stores.{stored}
-use Rattle.digits.proofs.StoreLaws.{length_word_stored}
 use Rattle.demorad.specs.Image.{word_bytes}
-use Rattle.demorad.proofs.WritingLaws.{put_turns, put_ends}
 use Rattle.demorad_write.proofs.put_payload.Given as goal
 
 abbrev pub invariant-loop-i : goal.invariant-loop-i

@@ -7,7 +7,6 @@ use Rattle.demorad.specs.Rules.{legality}
 use Rattle.demorad.specs.Image.{command_bytes}
 use Rattle.demorad.proofs.RuleLaws.{is_legal}
 use Rattle.demorad.proofs.WritingLaws.{length_command, put_command}
-use borrow.Author.Rules.{rules}
 use Rattle.demorad_write.proofs.write_command.Goals as goal
 
 pub returns-then-illegal-ne0 : goal.returns-then-illegal-ne0

@@ -3,7 +3,6 @@ use mathlib.Core.Path.{sym, ◌∙◌}
 use native.Mathlib.Omega.{arith}
 use Rattle.digits.proofs.Choices.{within_bounds}
 use Rattle.digits.proofs.HexLaws.{digit_figure, digit_letter, digit_none}
-use borrow.Author.Rules.{rules}
 use Rattle.digits.proofs.digit_of.Goals as goal
 
 pub overflow_sub-result : goal.overflow_sub-result

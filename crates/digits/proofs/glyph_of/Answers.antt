@@ -1,7 +1,6 @@
 -- Each return is one law: a figure, a letter.
 use native.Mathlib.Omega.{arith}
 use Rattle.digits.proofs.HexSteps.{glyph_figure, glyph_letter}
-use borrow.Author.Rules.{rules}
 use Rattle.digits.proofs.glyph_of.Goals as goal
 
 pub returns-then-d-le9 : goal.returns-then-d-le9

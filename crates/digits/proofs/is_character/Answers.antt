@@ -1,5 +1,4 @@
 -- `digits::is_character` meets its contract, which is that of `between` for its two ends.
-use borrow.Author.Rules.{rules}
 use Rattle.digits.proofs.is_character.Goals as goal
 
 pub returns : goal.returns

@@ -1,5 +1,4 @@
 -- A figure or a letter.
-use borrow.Author.Rules.{rules}
 use mathlib.Core.Path.{◌∙◌}
 use Rattle.digits.proofs.HexLaws.{hex_of}
 use Rattle.digits.proofs.is_hex.Goals as goal

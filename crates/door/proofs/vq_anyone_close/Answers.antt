@@ -1,5 +1,4 @@
 -- `door::vq_anyone_close` meets its contract, which is that of `anyone_close`.
-use borrow.Author.Rules.{rules}
 use Rattle.door.proofs.vq_anyone_close.Goals as goal
 
 pub returns : goal.returns

@@ -1,5 +1,4 @@
 use Prim.Native.Nat.{◌≤◌, ◌-◌}
-use borrow.Author.Rules.{rules}
 use Rattle.edges.proofs.characters.Given as goal
 
 abbrev pub invariant-loop-byte : goal.invariant-loop-byte

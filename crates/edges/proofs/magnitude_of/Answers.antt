@@ -1,5 +1,4 @@
 -- `edges::magnitude_of` is safe and ends: each sign gives a natural number of 64 bits.
-use borrow.Author.Rules.{rules}
 use Rattle.edges.proofs.Magnitudes.{widens, opposite_widens, below_zero, from_zero}
 use Rattle.edges.proofs.magnitude_of.Goals as goal
 

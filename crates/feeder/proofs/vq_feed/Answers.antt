@@ -1,5 +1,4 @@
 -- `feeder::vq_feed` meets its contract, which is that of `feed`.
-use borrow.Author.Rules.{rules}
 use Rattle.feeder.proofs.vq_feed.Goals as goal
 
 pub returns : goal.returns

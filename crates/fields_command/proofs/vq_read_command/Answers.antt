@@ -1,5 +1,4 @@
 -- `fields_command::vq_read_command` meets its contract: the numbers are those of the command, RD as 0 or 1.
-use borrow.Author.Rules.{rules}
 use Rattle.fields_command.proofs.NumberLaws.{numbers_read}
 use Rattle.fields_command.proofs.vq_read_command.Goals as goal
 

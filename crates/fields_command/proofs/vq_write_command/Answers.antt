@@ -1,6 +1,5 @@
 -- `fields_command::vq_write_command` meets its contract: an RD over 1 is refused behind the code, the count and the selection.
 -- Else it is written as the flag.
-use borrow.Author.Rules.{rules}
 use Rattle.fields_command.proofs.NumberLaws.{numbers_illegal, numbers_unencoded, numbers_written}
 use Rattle.fields_command.proofs.vq_write_command.Goals as goal
 

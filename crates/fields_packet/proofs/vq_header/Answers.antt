@@ -1,5 +1,4 @@
 -- `fields_packet::vq_header` meets its contract: the answer is that of the reader.
-use borrow.Author.Rules.{rules}
 use Rattle.fields_packet.proofs.vq_header.Goals as goal
 
 pub returns : goal.returns

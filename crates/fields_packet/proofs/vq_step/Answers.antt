@@ -1,5 +1,4 @@
 -- `fields_packet::vq_step` meets its contract: it hands on what it is handed, and the answer's promise is the one called.
-use borrow.Author.Rules.{rules}
 use Rattle.fields_packet.proofs.vq_step.Goals as goal
 
 pub returns : goal.returns

@@ -1,5 +1,4 @@
 -- The field is there or waits; its value is the number of its four bytes.
-use borrow.Author.Rules.{rules}
 use native.Mathlib.Omega.{arith}
 use Rattle.form.specs.Pieces.{any, always}
 use Rattle.form.proofs.PieceLaws.{judges, four_waits, number_there}

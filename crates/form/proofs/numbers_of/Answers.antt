@@ -1,6 +1,5 @@
 -- `form::numbers_of` meets its contract, by the judgement's case.
 use mathlib.Core.Path.{sym, ap}
-use borrow.Author.Rules.{rules}
 use Rattle.form.specs.Numbers.{numbers_of}
 use Rattle.form.proofs.numbers_of.Goals as goal
 

@@ -1,5 +1,4 @@
 -- No byte at all, the bytes not there yet, or all there.
-use borrow.Author.Rules.{rules}
 use native.Mathlib.Omega.{arith}
 use Rattle.form.proofs.PieceLaws.{judges, free_none, free_waits, free_whole}
 use Rattle.form.proofs.skip.Goals as goal

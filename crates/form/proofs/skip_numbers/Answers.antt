@@ -1,5 +1,4 @@
 -- n four-byte fields are 4n free bytes.
-use borrow.Author.Rules.{rules}
 use mathlib.Core.Path.{sym, ◌∙◌}
 use Rattle.form.proofs.PieceLaws.{judges, frees_free}
 use Rattle.form.proofs.skip_numbers.Goals as goal

@@ -1,7 +1,6 @@
 -- `gateway::vq_judge` meets its contract: the numbers are those of the verdict, by its case.
 use mathlib.Core.Path.{sym, ap, ◌∙◌}
 use Rattle.capture.specs.Entries.{verdict_numbers}
-use borrow.Author.Rules.{rules}
 use Rattle.gateway.proofs.vq_judge.Goals as goal
 
 pub returns-in-Refused : goal.returns-in-Refused

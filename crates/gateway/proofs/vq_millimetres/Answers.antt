@@ -1,5 +1,4 @@
 -- `gateway::vq_millimetres` meets its contract: the answer is that of the rule.
-use borrow.Author.Rules.{rules}
 use Rattle.gateway.proofs.vq_millimetres.Goals as goal
 
 pub returns : goal.returns

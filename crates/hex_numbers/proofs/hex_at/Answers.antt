@@ -3,7 +3,6 @@ use mathlib.Core.Path.{◌∙◌, sym}
 use Prim.Native.Nat.{min}
 use native.Mathlib.Omega.{arith}
 use Rattle.digits.proofs.HexSteps.{hex_missing, hex_counted}
-use borrow.Author.Rules.{rules}
 use Rattle.hex_numbers.proofs.hex_at.Goals as goal
 
 pub returns-then-s-at : goal.returns-then-s-at

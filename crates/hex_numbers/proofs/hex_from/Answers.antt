@@ -1,11 +1,9 @@
 -- The digits left, with the number so far in front of them, give the whole number; i digits give a number below 16 ^ i.
-use mathlib.Core.Path.{◌≡◌, sym, ◌∙◌}
-use Prim.Native.Nat.{◌+◌, ◌-◌, ◌^◌, ◌<◌, ◌≤◌}
+use mathlib.Core.Path.{sym, ◌∙◌}
+use Prim.Native.Nat.{◌+◌, ◌<◌}
 use native.Mathlib.Omega.{arith}
-use borrow.Author.Rules.{rules}
 use lib.Dec.{lit<}
-use lib.ListN.{take, drop, get_or}
-use Rattle.digits.specs.Hex.{hex_from, hex_at}
+use lib.ListN.{get_or}
 use Rattle.digits.proofs.HexLaws.{digit_small, hex_grows}
 use Rattle.digits.proofs.HexSteps.{hex_room, hex_start, hex_next, hex_end}
 use Rattle.hex_numbers.proofs.hex_from.Goals as goal

@@ -1,12 +1,7 @@
-use mathlib.Core.Path.{◌≡◌, sym, ◌∙◌}
+use mathlib.Core.Path.{◌≡◌}
 use Prim.Native.Nat.{◌+◌, ◌-◌, ◌^◌, ◌<◌, ◌≤◌}
-use native.Mathlib.Omega.{arith}
-use borrow.Author.Rules.{rules}
-use lib.Dec.{lit<}
-use lib.ListN.{take, drop, get_or}
+use lib.ListN.{take, drop}
 use Rattle.digits.specs.Hex.{hex_from, hex_at}
-use Rattle.digits.proofs.HexLaws.{digit_small, hex_grows}
-use Rattle.digits.proofs.HexSteps.{hex_room, hex_start, hex_next, hex_end}
 use Rattle.hex_numbers.proofs.hex_from.Given as goal
 
 abbrev pub invariant-loop-i : goal.invariant-loop-i

@@ -1,10 +1,7 @@
 -- Storing the digits left gives what storing all of them gave.
-use mathlib.Core.Path.{◌≡◌, refl, sym, ◌∙◌}
-use Prim.Native.Nat.{◌≤◌}
+use mathlib.Core.Path.{refl, sym, ◌∙◌}
 use native.Mathlib.Omega.{arith}
-use lib.ListN.{length, length-set}
-use Rattle.digits.specs.Hex.{hex_digits}
-use Rattle.digits.specs.Stores.{stored}
+use lib.ListN.{length-set}
 use Rattle.digits.proofs.HexSteps.{digit_next, digit_end, digits_fit, digits_unfit}
 use Rattle.hex_numbers.proofs.put_hex.Goals as goal
 

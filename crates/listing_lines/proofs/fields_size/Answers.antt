@@ -2,7 +2,6 @@
 use native.Mathlib.Omega.{arith}
 use Rattle.listing.proofs.LineLaws.{length_fields}
 use Rattle.listing.proofs.DecimalLaws.{width_most}
-use borrow.Author.Rules.{rules}
 use Rattle.listing_lines.proofs.fields_size.Goals as goal
 
 pub overflow_add-result : goal.overflow_add-result

@@ -1,6 +1,5 @@
 -- `listing_lines::put_byte` meets its contract: one store.
 use Rattle.listing.proofs.PutLaws.{puts_byte}
-use borrow.Author.Rules.{rules}
 use Rattle.listing_lines.proofs.put_byte.Goals as goal
 
 pub returns : goal.returns

@@ -1,12 +1,11 @@
 -- `listing_lines::put_decimal` meets its contract. The loop keeps that storing the digits that are left completes the number.
-use mathlib.Core.Path.{refl, ap, sym, ◌≡◌, ◌∙◌}
-use Prim.Native.Nat.{ℕ, ◌≤◌}
-use lib.ListN.{length-set, length}
+use mathlib.Core.Path.{refl, ap, sym, ◌∙◌}
+use Prim.Native.Nat.{ℕ}
+use lib.ListN.{length-set}
 use Rattle.listing.specs.Decimal.{decimals, decimal}
 use native.Mathlib.Omega.{arith}
 use Rattle.digits.specs.Stores.{stored}
 use Rattle.listing.proofs.DecimalLaws.{digit_step, digits_over, length_decimal}
-use borrow.Author.Rules.{rules}
 use Rattle.listing_lines.proofs.put_decimal.Goals as goal
 
 pub loop-left-init : goal.loop-left-init

@@ -1,11 +1,8 @@
-use mathlib.Core.Path.{refl, ap, sym, ◌≡◌, ◌∙◌}
-use Prim.Native.Nat.{ℕ, ◌≤◌}
-use lib.ListN.{length-set, length}
+use mathlib.Core.Path.{◌≡◌}
+use Prim.Native.Nat.{◌≤◌}
+use lib.ListN.{length}
 use Rattle.listing.specs.Decimal.{decimals, decimal}
-use native.Mathlib.Omega.{arith}
 use Rattle.digits.specs.Stores.{stored}
-use Rattle.listing.proofs.DecimalLaws.{digit_step, digits_over, length_decimal}
-use borrow.Author.Rules.{rules}
 use Rattle.listing_lines.proofs.put_decimal.Given as goal
 
 abbrev pub invariant-loop-left : goal.invariant-loop-left

@@ -4,7 +4,6 @@ use Rattle.listing.proofs.DecimalLaws.{length_decimal}
 use Rattle.listing.proofs.LineLaws.{length_field}
 use Rattle.listing.specs.Lines.{field}
 use Rattle.listing.proofs.PutLaws.{puts_then, puts_length}
-use borrow.Author.Rules.{rules}
 use Rattle.listing_lines.proofs.put_field.Goals as goal
 
 pub put_byte-digits-requires : goal.put_byte-digits-requires

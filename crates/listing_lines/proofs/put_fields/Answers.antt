@@ -3,7 +3,6 @@ use native.Mathlib.Omega.{arith}
 use Rattle.listing.specs.Lines.{fields}
 use Rattle.listing.proofs.LineLaws.{length_field, length_fields}
 use Rattle.listing.proofs.PutLaws.{puts_then, puts_length}
-use borrow.Author.Rules.{rules}
 use Rattle.listing_lines.proofs.put_fields.Goals as goal
 
 pub put_field-second-requires : goal.put_field-second-requires

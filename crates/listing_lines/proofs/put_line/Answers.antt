@@ -2,7 +2,6 @@
 use native.Mathlib.Omega.{arith}
 use Rattle.listing.proofs.LineLaws.{line_unfit, line_fits}
 use Rattle.listing.proofs.PutLaws.{puts_length}
-use borrow.Author.Rules.{rules}
 use Rattle.listing_lines.proofs.put_line.Goals as goal
 
 pub returns-then-out-at : goal.returns-then-out-at

@@ -1,7 +1,6 @@
 -- `listing_lines::put_text` meets its contract: the text fits, so it is stored.
 use native.Mathlib.Omega.{arith}
 use Rattle.listing.proofs.PutLaws.{puts_within}
-use borrow.Author.Rules.{rules}
 use Rattle.listing_lines.proofs.put_text.Goals as goal
 
 pub returns : goal.returns

@@ -1,7 +1,6 @@
 -- `listing_table::held_rows` meets its contract: one law for each way out.
 use native.Mathlib.Omega.{arith}
 use Rattle.listing.proofs.LineLaws.{held_many, held_few, held_all}
-use borrow.Author.Rules.{rules}
 use Rattle.listing_table.proofs.held_rows.Goals as goal
 
 pub returns-then-rows-gt-MAX_ROWS : goal.returns-then-rows-gt-MAX_ROWS

@@ -3,7 +3,6 @@ use native.Mathlib.Omega.{arith}
 use Rattle.listing.specs.Internal.{table_text}
 use Rattle.listing.proofs.PutLaws.{puts_then, puts_length}
 use Rattle.listing.proofs.LineLaws.{length_table_text, length_end, length_header}
-use borrow.Author.Rules.{rules}
 use Rattle.listing_table.proofs.put_all.Goals as goal
 
 pub put_header-first-requires : goal.put_header-first-requires

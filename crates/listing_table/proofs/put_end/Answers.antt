@@ -2,7 +2,6 @@
 use native.Mathlib.Omega.{arith}
 use Rattle.listing.specs.Lines.{end_line}
 use Rattle.listing.proofs.PutLaws.{lays_puts}
-use borrow.Author.Rules.{rules}
 use Rattle.listing_table.proofs.put_end.Goals as goal
 
 pub returns : goal.returns

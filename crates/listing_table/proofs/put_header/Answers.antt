@@ -2,7 +2,6 @@
 use native.Mathlib.Omega.{arith}
 use Rattle.listing.specs.Lines.{header_line}
 use Rattle.listing.proofs.PutLaws.{puts_within}
-use borrow.Author.Rules.{rules}
 use Rattle.listing_table.proofs.put_header.Goals as goal
 
 pub returns : goal.returns

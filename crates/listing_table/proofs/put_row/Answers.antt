@@ -1,7 +1,6 @@
 -- `listing_table::put_row` meets its contract: the letter, then the numbers.
 use native.Mathlib.Omega.{arith}
 use Rattle.listing.proofs.LineLaws.{puts_row}
-use borrow.Author.Rules.{rules}
 use Rattle.listing_table.proofs.put_row.Goals as goal
 
 pub returns : goal.returns

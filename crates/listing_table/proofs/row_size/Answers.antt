@@ -3,7 +3,6 @@ use Rattle.listing.specs.Internal.{first_of}
 use lib.ListN.{drop}
 use native.Mathlib.Omega.{arith}
 use Rattle.listing.proofs.LineLaws.{length_row_at, row_most}
-use borrow.Author.Rules.{rules}
 use Rattle.listing_table.proofs.row_size.Goals as goal
 
 pub overflow_add-result : goal.overflow_add-result

@@ -1,10 +1,9 @@
 -- `listing_table::rows_size` meets its contract. The loop keeps that the lines that are left complete the count.
 use mathlib.Core.Path.{ap, ◌∙◌}
-use Prim.Native.Nat.{ℕ, ◌+◌, ◌-◌}
+use Prim.Native.Nat.{ℕ, ◌+◌}
 use native.Mathlib.Nat.{zero-add}
 use native.Mathlib.Omega.{arith}
-use Rattle.listing.proofs.LineLaws.{Reached, reached_start, reached_next, reached_fits, reached_over, table_most}
-use borrow.Author.Rules.{rules}
+use Rattle.listing.proofs.LineLaws.{reached_start, reached_next, reached_fits, reached_over, table_most}
 use Rattle.listing_table.proofs.rows_size.Goals as goal
 
 pub loop-i-init : goal.loop-i-init

@@ -1,7 +1,6 @@
 -- `listing_table::text_size` meets its contract: the first line, the rows' lines, the last line.
 use native.Mathlib.Omega.{arith}
 use Rattle.listing.proofs.LineLaws.{length_table_text, table_most, fields_most}
-use borrow.Author.Rules.{rules}
 use Rattle.listing_table.proofs.text_size.Goals as goal
 
 pub overflow_add-result : goal.overflow_add-result

@@ -1,7 +1,6 @@
 -- `listing_table::write_rows` meets its contract: the text fits, or nothing is written.
 use native.Mathlib.Omega.{arith}
 use Rattle.listing.proofs.ListingLaws.{writes_short, writes_done}
-use borrow.Author.Rules.{rules}
 use Rattle.listing_table.proofs.write_rows.Goals as goal
 
 pub returns-then-out-text_size : goal.returns-then-out-text_size

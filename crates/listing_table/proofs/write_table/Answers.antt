@@ -1,5 +1,4 @@
 -- `listing_table::write_table` meets its contract.
-use borrow.Author.Rules.{rules}
 use Rattle.listing_table.proofs.write_table.Goals as goal
 
 pub write_rows-requires : goal.write_rows-requires

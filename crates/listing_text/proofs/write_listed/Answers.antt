@@ -3,7 +3,6 @@ use Prim.Native.Nat.{◌≤◌}
 use lib.ListN.{length}
 use native.Mathlib.Omega.{arith}
 use Rattle.listing.proofs.ListingLaws.{closed_whole, closed_few, writes_listed}
-use borrow.Author.Rules.{rules}
 use Rattle.listing_text.proofs.write_listed.Goals as goal
 
 pub overflow_cast-skipped : goal.overflow_cast-skipped

@@ -2,7 +2,6 @@
 use native.Mathlib.Omega.{arith}
 use Rattle.listing.specs.Lines.{refused_line}
 use Rattle.listing.proofs.ListingLaws.{listing_long, listing_whole}
-use borrow.Author.Rules.{rules}
 use Rattle.listing_text.proofs.write_listing.Goals as goal
 
 pub returns-then-bytes-gt-MAX_INPUT : goal.returns-then-bytes-gt-MAX_INPUT

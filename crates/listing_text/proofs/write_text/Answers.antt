@@ -1,7 +1,6 @@
 -- `listing_text::write_text` meets its contract: the text fits, or nothing is written.
 use native.Mathlib.Omega.{arith}
 use Rattle.listing.proofs.ListingLaws.{writes_short, writes_stored}
-use borrow.Author.Rules.{rules}
 use Rattle.listing_text.proofs.write_text.Goals as goal
 
 pub returns-then-out-text : goal.returns-then-out-text

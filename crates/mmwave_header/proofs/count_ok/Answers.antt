@@ -1,6 +1,5 @@
 -- One test after another, as the definition has them.
 use Rattle.mmwave.proofs.RuleLaws.{count_many, count_tight, count_some, count_none}
-use borrow.Author.Rules.{rules}
 use Rattle.mmwave_header.proofs.count_ok.Goals as goal
 
 pub returns-then-k-gt-MOST_RECORDS : goal.returns-then-k-gt-MOST_RECORDS

@@ -1,8 +1,8 @@
 -- The first record, and then the remaining ones right behind it, one fewer; all of them lie within the bytes.
-use Rattle.std.proofs.Common.{◌≡◌, ℕ, zero, suc, ◌+◌, ◌*◌, ◌≤◌, length, refl, arith}
+use Rattle.std.proofs.Common.{◌≡◌, ℕ, zero, suc, ◌+◌, ◌*◌, ◌≤◌, refl, arith}
 use Rattle.mmwave.specs.Dialects.{profile_of}
 use Rattle.mmwave.proofs.Within.{FirstRead, TypeRead, settled_none, settled_repeat, settled_more, settled_refused}
-use Rattle.mmwave.proofs.Within.{length_within, record_within_lem, same_end}
+use Rattle.mmwave.proofs.Within.{length_within, same_end}
 use Rattle.mmwave_inside.proofs.+walk_inside.Goals.{Then-length_ok}
 use Rattle.mmwave_inside.proofs.+walk_inside.Goals as goal
 

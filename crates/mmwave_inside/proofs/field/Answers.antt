@@ -2,7 +2,6 @@
 use mathlib.Core.Path.{◌∙◌}
 use native.Mathlib.Omega.{arith}
 use Rattle.form.proofs.PieceLaws.{little_there}
-use borrow.Author.Rules.{rules}
 use Rattle.mmwave_inside.proofs.field.Goals as goal
 
 pub returns : goal.returns

@@ -2,7 +2,6 @@
 use native.Mathlib.Omega.{arith}
 use Rattle.form.proofs.PieceLaws.{judges}
 use Rattle.mmwave.proofs.Within.{settled_whole, settled_bad}
-use borrow.Author.Rules.{rules}
 use Rattle.mmwave_inside.proofs.judge_records.Goals as goal
 
 pub returns-then-s-total : goal.returns-then-s-total

@@ -1,7 +1,6 @@
 -- The rule of the type, and one test.
 use Rattle.mmwave.proofs.RecordLaws.{type_test}
 use Rattle.mmwave.proofs.RuleLaws.{reason_length, reason_type}
-use borrow.Author.Rules.{rules}
 use Rattle.mmwave_inside.proofs.refusal_of.Goals as goal
 
 pub returns-then-type_ok : goal.returns-then-type_ok

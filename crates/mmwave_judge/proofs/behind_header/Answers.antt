@@ -1,5 +1,4 @@
 -- The records' judgement, with the room that the total length leaves.
-use borrow.Author.Rules.{rules}
 use Rattle.mmwave_judge.proofs.behind_header.Goals as goal
 
 pub returns : goal.returns

@@ -3,7 +3,6 @@ use mathlib.Core.Bool.{false}
 use mathlib.Core.Path.{refl}
 use Rattle.digits.proofs.Choices.{both_ways}
 use Rattle.mmwave.proofs.Within.{magic_met, magic_fours}
-use borrow.Author.Rules.{rules}
 use Rattle.mmwave_judge.proofs.has_magic.Goals as goal
 
 -- the first four are those of the magic

@@ -1,5 +1,4 @@
 -- The header is there or not.
-use borrow.Author.Rules.{rules}
 use Rattle.form.proofs.PieceLaws.{judges}
 use Rattle.mmwave_judge.proofs.judge.Goals as goal
 

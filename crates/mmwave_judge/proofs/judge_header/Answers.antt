@@ -3,7 +3,6 @@ use mathlib.Core.Path.{sym, ◌∙◌}
 use Rattle.mmwave.specs.Dialects.{profile_of}
 use Rattle.mmwave.proofs.RecordLaws.{count_room}
 use Rattle.mmwave.proofs.Within.{no_magic, header_total, header_objects, header_count, header_subframe, header_passed}
-use borrow.Author.Rules.{rules}
 use Rattle.mmwave_judge.proofs.judge_header.Goals as goal
 
 pub behind_header-requires : goal.behind_header-requires

@@ -1,7 +1,6 @@
 -- The word at the offset, which is there.
 use mathlib.Core.Path.{◌∙◌}
 use Rattle.digits.proofs.LittleEndianLaws.{word_there}
-use borrow.Author.Rules.{rules}
 use Rattle.mmwave_judge.proofs.number.Goals as goal
 
 pub returns : goal.returns

@@ -1,7 +1,6 @@
 -- Numbers of four bytes are equal exactly if the bytes are.
 use native.Mathlib.Omega.{arith}
 use Rattle.mmwave.proofs.Within.{same_bytes, other_bytes}
-use borrow.Author.Rules.{rules}
 use Rattle.mmwave_judge.proofs.same_four.Goals as goal
 
 pub returns : goal.returns

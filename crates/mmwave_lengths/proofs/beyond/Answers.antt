@@ -1,6 +1,5 @@
 -- The bits below the unit.
 use Rattle.mmwave.proofs.RuleLaws.{masked}
-use borrow.Author.Rules.{rules}
 use Rattle.mmwave_lengths.proofs.beyond.Goals as goal
 
 pub returns : goal.returns

@@ -1,6 +1,5 @@
 -- A length within the room needs no more bits than the room.
 use Rattle.mmwave.proofs.RuleLaws.{fits_over}
-use borrow.Author.Rules.{rules}
 use Rattle.mmwave_lengths.proofs.exact_fits.Goals as goal
 
 pub returns-then-room-n : goal.returns-then-room-n

@@ -1,6 +1,5 @@
 -- The conjunction, test by test.
 use Rattle.mmwave.proofs.RecordLaws.{length_both, length_not}
-use borrow.Author.Rules.{rules}
 use Rattle.mmwave_lengths.proofs.length_ok.Goals as goal
 
 pub returns-then-length_legal : goal.returns-then-length_legal

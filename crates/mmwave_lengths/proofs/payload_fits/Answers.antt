@@ -1,6 +1,5 @@
 -- One test after another, as the definition has them.
 use Rattle.mmwave.proofs.RuleLaws.{fits_over, fits_more, fits_last}
-use borrow.Author.Rules.{rules}
 use Rattle.mmwave_lengths.proofs.payload_fits.Goals as goal
 
 pub returns-then-k-gt1 : goal.returns-then-k-gt1

@@ -1,6 +1,5 @@
 -- One test after another, as the definition has them.
 use Rattle.mmwave.proofs.RuleLaws.{multiple_more, multiple_last}
-use borrow.Author.Rules.{rules}
 use Rattle.mmwave_lengths.proofs.some_multiple_fits.Goals as goal
 
 pub returns-then-k-gt1 : goal.returns-then-k-gt1

@@ -1,5 +1,4 @@
 -- Each field goes on from the end of the one before; a legal record count leaves room for the headers.
-use borrow.Author.Rules.{rules}
 use Rattle.mmwave.proofs.RecordLaws.{count_leaves}
 use mathlib.Core.Path.{sym, ◌∙◌}
 use Rattle.form.proofs.PieceLaws.{go_on, halt}

@@ -5,7 +5,6 @@ use Rattle.form.specs.Pieces.{always}
 use Rattle.form.proofs.PieceLaws.{unread, taken, refused}
 use Rattle.mmwave.specs.Dialects.{profile_of}
 use Rattle.mmwave_pieces.specs.Internal.{reason_of, test_of}
-use borrow.Author.Rules.{rules}
 use Rattle.mmwave_pieces.proofs.checked_at.Goals as goal
 
 pub returns-in_default : goal.returns-in_default

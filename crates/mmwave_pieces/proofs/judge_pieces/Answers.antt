@@ -1,5 +1,4 @@
 -- Each piece goes on from the end of the one before.
-use borrow.Author.Rules.{rules}
 use Rattle.form.proofs.PieceLaws.{go_on, halt, judges}
 use mathlib.Core.Path.{sym, ◌∙◌}
 use Rattle.mmwave.specs.Packet.{packet}

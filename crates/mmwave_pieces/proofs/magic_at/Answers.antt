@@ -1,10 +1,6 @@
 -- The invariant: the magic from the start is judged as what is left of it from here.
-use mathlib.Core.Path.{◌≡◌, refl, sym, ◌∙◌}
-use Prim.Native.Nat.{◌≤◌, ◌-◌}
+use mathlib.Core.Path.{refl, sym, ◌∙◌}
 use native.Mathlib.Omega.{arith}
-use lib.ListN.{drop}
-use Rattle.form.specs.Form.{judge_at}
-use Rattle.form.specs.Pieces.{marker}
 use Rattle.form.proofs.PieceLaws.{marker_hit, marker_miss, marker_ends, marker_over}
 use Rattle.mmwave.specs.Packet.{magic}
 use Rattle.mmwave_pieces.proofs.magic_at.Goals as goal

@@ -1,10 +1,8 @@
-use mathlib.Core.Path.{◌≡◌, refl, sym, ◌∙◌}
+use mathlib.Core.Path.{◌≡◌}
 use Prim.Native.Nat.{◌≤◌, ◌-◌}
-use native.Mathlib.Omega.{arith}
 use lib.ListN.{drop}
 use Rattle.form.specs.Form.{judge_at}
 use Rattle.form.specs.Pieces.{marker}
-use Rattle.form.proofs.PieceLaws.{marker_hit, marker_miss, marker_ends, marker_over}
 use Rattle.mmwave.specs.Packet.{magic}
 use Rattle.mmwave_pieces.proofs.magic_at.Given as goal
 

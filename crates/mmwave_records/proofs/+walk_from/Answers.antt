@@ -4,13 +4,13 @@ use Rattle.form.specs.declared.Judgement.TheVariants.{Whole}
 use Rattle.form.specs.Form.{judge_at}
 use Rattle.form.proofs.PieceLaws.{go_on, halt, stop, unread}
 use Rattle.mmwave.specs.Dialects.{profile_of}
-use Rattle.mmwave.specs.Profile.{fresh, type_ok}
+use Rattle.mmwave.specs.Profile.{type_ok}
 use Rattle.mmwave.specs.Packet.{type_field}
 use Rattle.mmwave.proofs.Marks.{unseen, seen_again}
 use Rattle.mmwave.proofs.RecordLaws.{type_test, type_repeated, type_not, type_taken, payload_by}
 use Rattle.mmwave.proofs.RecordLaws.{records_none, records_first, records_behind_lem}
 use Rattle.mmwave.proofs.EntryLaws.{payload_fits}
-use Rattle.mmwave_records.proofs.+walk_from.Goals.{In-Whole-b, In_default-b}
+use Rattle.mmwave_records.proofs.+walk_from.Goals.{In_default-b}
 use Rattle.mmwave_records.proofs.+walk_from.Goals as goal
 
 pub returns-then-k-eq0 : goal.returns-then-k-eq0

@@ -2,7 +2,6 @@
 use Rattle.form.proofs.PieceLaws.{halt}
 use Rattle.mmwave.specs.Packet.{last}
 use Rattle.mmwave.proofs.RecordLaws.{last_whole}
-use borrow.Author.Rules.{rules}
 use Rattle.mmwave_records.proofs.padding_at.Goals as goal
 
 pub returns-in_default : goal.returns-in_default

@@ -3,7 +3,6 @@ use mathlib.Core.Path.{refl, sym, ◌∙◌}
 use Rattle.form.proofs.PieceLaws.{unread, taken, refused, go_on, halt, stop, whole_there}
 use Rattle.form.specs.Pieces.{always}
 use Rattle.mmwave.specs.Packet.{payload}
-use borrow.Author.Rules.{rules}
 use Rattle.mmwave_records.proofs.payload_at.Goals as goal
 
 pub returns-in_default : goal.returns-in_default

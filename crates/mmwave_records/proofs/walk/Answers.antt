@@ -1,6 +1,5 @@
 -- The walk with the slice lent on.
 use Rattle.form.proofs.PieceLaws.{judges}
-use borrow.Author.Rules.{rules}
 use Rattle.mmwave_records.proofs.walk.Goals as goal
 
 pub returns : goal.returns

@@ -1,7 +1,6 @@
 -- The Horner sum of the code is the definition, unfolded.
 use native.Mathlib.Omega.{arith}
 use Rattle.digits.specs.LittleEndian.{from_little}
-use borrow.Author.Rules.{rules}
 use Rattle.numbers.proofs.join.Goals as goal
 
 pub returns : goal.returns

@@ -3,7 +3,6 @@ use mathlib.Core.Path.{sym}
 use native.Mathlib.Omega.{arith}
 use lib.ListN.{length-set}
 use Rattle.digits.proofs.StoreLaws.{word_unfit, four_stores}
-use borrow.Author.Rules.{rules}
 use Rattle.numbers.proofs.put_word.Goals as goal
 
 pub returns-then-out-at : goal.returns-then-out-at

@@ -2,7 +2,6 @@
 use mathlib.Core.Path.{◌∙◌, sym}
 use native.Mathlib.Omega.{arith}
 use Rattle.digits.proofs.LittleEndianLaws.{word_missing, word_joined}
-use borrow.Author.Rules.{rules}
 use Rattle.numbers.proofs.word_at.Goals as goal
 
 pub returns-then-s-at : goal.returns-then-s-at

@@ -1,6 +1,5 @@
 -- `packet_fields::read_record` meets its contract: 6, or the record that the walk comes to.
 use Rattle.packet.proofs.FieldLaws.{record_over, record_there, record_walks, record_small}
-use borrow.Author.Rules.{rules}
 use Rattle.packet_fields.proofs.read_record.Goals as goal
 
 pub returns-then-records-index : goal.returns-then-records-index

@@ -1,6 +1,5 @@
 -- `packet_fields::read_step` meets its contract: 6 where no record starts there, else the record there.
 use Rattle.packet.proofs.FieldLaws.{step_nowhere, step_there, step_small}
-use borrow.Author.Rules.{rules}
 use Rattle.packet_fields.proofs.read_step.Goals as goal
 
 pub starts-requires : goal.starts-requires

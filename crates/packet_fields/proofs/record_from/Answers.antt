@@ -1,6 +1,5 @@
 -- `packet_fields::record_from` meets its contract: the record's two words, and its payload 8 bytes on.
 use Prim.Native.Nat.{◌+◌}
-use borrow.Author.Rules.{rules}
 use Rattle.packet_fields.proofs.record_from.Goals as goal
 
 pub returns : goal.returns

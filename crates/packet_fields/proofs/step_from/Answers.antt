@@ -1,5 +1,4 @@
 -- `packet_fields::step_from` meets its contract: the record shown, and the offset behind it.
-use borrow.Author.Rules.{rules}
 use Rattle.packet_fields.proofs.step_from.Goals as goal
 
 pub returns : goal.returns

@@ -1,6 +1,5 @@
 -- `packet_find::point_record` meets its contract: none where the count is over 32, else the first of the K records from 40 on.
 use Rattle.packet.proofs.FieldLaws.{record_none, record_found}
-use borrow.Author.Rules.{rules}
 use Rattle.packet_find.proofs.point_record.Goals as goal
 
 pub returns-then-records-gt-MOST_RECORDS : goal.returns-then-records-gt-MOST_RECORDS

@@ -2,7 +2,6 @@
 use mathlib.Core.Path.{sym}
 use native.Mathlib.Omega.{arith}
 use Rattle.digits.proofs.LittleEndianLaws.{word_missing}
-use borrow.Author.Rules.{rules}
 use Rattle.packet_header.proofs.payload_length.Goals as goal
 
 pub returns-then-s-p : goal.returns-then-s-p

@@ -1,6 +1,5 @@
 -- `packet_fields::read_header` meets its contract: the eight words at their offsets.
 use Rattle.packet.proofs.FieldLaws.{header_words}
-use borrow.Author.Rules.{rules}
 use Rattle.packet_header.proofs.read_header.Goals as goal
 
 pub returns : goal.returns

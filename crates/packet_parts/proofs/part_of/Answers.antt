@@ -1,7 +1,6 @@
 -- `packet_parts::part_of` meets its contract: the two tests say that the part lies within the slice.
 use native.Mathlib.Omega.{arith}
 use Rattle.packet_parts.proofs.PartLaws.{part_none, part_there}
-use borrow.Author.Rules.{rules}
 use Rattle.packet_parts.proofs.part_of.Goals as goal
 
 pub returns-then-bytes-start : goal.returns-then-bytes-start

@@ -1,8 +1,6 @@
 -- `proximity_points::first_close` meets its contract: the points from here on give what all give.
 use native.Mathlib.Omega.{arith}
-use Prim.Native.Nat.{◌-◌}
-use borrow.Author.Rules.{rules}
-use Rattle.proximity.proofs.PointLaws.{Scanning, scanning_start, scanning_on, scanning_found, scanning_end}
+use Rattle.proximity.proofs.PointLaws.{scanning_start, scanning_on, scanning_found, scanning_end}
 use Rattle.proximity_points.proofs.first_close.Goals as goal
 
 pub loop-i-init : goal.loop-i-init

@@ -1,7 +1,5 @@
-use native.Mathlib.Omega.{arith}
 use Prim.Native.Nat.{◌-◌}
-use borrow.Author.Rules.{rules}
-use Rattle.proximity.proofs.PointLaws.{Scanning, scanning_start, scanning_on, scanning_found, scanning_end}
+use Rattle.proximity.proofs.PointLaws.{Scanning}
 use Rattle.proximity_points.proofs.first_close.Given as goal
 
 abbrev pub invariant-loop-i : goal.invariant-loop-i

@@ -1,5 +1,4 @@
 -- `proximity_points::is_close` meets its contract: the first coordinate beyond the limit decides, else the last one.
-use borrow.Author.Rules.{rules}
 use Rattle.proximity.proofs.PointLaws.{x_beyond, y_beyond, z_decides}
 use Rattle.proximity_points.proofs.is_close.Goals as goal
 

@@ -1,5 +1,4 @@
 -- `proximity_points::is_within` meets its contract.
-use borrow.Author.Rules.{rules}
 use Rattle.proximity_points.proofs.is_within.Goals as goal
 
 pub returns : goal.returns

@@ -1,5 +1,4 @@
 -- `readings::vq_closed_reading` meets its contract, which is that of `read_capture`.
-use borrow.Author.Rules.{rules}
 use Rattle.readings.proofs.vq_closed_reading.Goals as goal
 
 pub returns : goal.returns

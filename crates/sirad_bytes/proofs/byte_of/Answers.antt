@@ -1,5 +1,4 @@
 -- No byte is there, it passes, or it is refused.
-use borrow.Author.Rules.{rules}
 use Rattle.form.proofs.PieceLaws.{judges}
 use mathlib.Core.Path.{sym, ap, ◌∙◌}
 use native.Mathlib.Omega.{arith}

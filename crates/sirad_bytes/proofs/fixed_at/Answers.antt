@@ -1,5 +1,4 @@
 -- No byte is there, it is the fixed one, or it is refused.
-use borrow.Author.Rules.{rules}
 use borrow.Author.Tests.{eq-eqb, ne_eqb}
 use Rattle.form.proofs.PieceLaws.{judges}
 use Rattle.sirad.proofs.Runs.{one_ends, one_hit, one_miss}

@@ -1,5 +1,4 @@
 -- The first byte chooses the form.
-use borrow.Author.Rules.{rules}
 use Rattle.form.proofs.PieceLaws.{judges}
 use mathlib.Core.Path.{sym, ◌∙◌}
 use Rattle.sirad.proofs.FrameLaws.{block_ends, block_zeros, block_target}

@@ -1,10 +1,6 @@
 -- What is left of the run is judged as the whole run is.
-use borrow.Author.Rules.{rules}
 use Rattle.form.proofs.PieceLaws.{judges}
-use mathlib.Core.Path.{◌≡◌, refl, sym, ◌∙◌}
-use Rattle.form.specs.Form.{judge_at}
-use Rattle.sirad.specs.Sirad.{run}
-use Rattle.sirad.specs.Internal.{class_of}
+use mathlib.Core.Path.{refl, sym, ◌∙◌}
 use Rattle.sirad.proofs.Runs.{run_next, run_halts, run_over}
 use Rattle.sirad_bytewise.proofs.span.Goals as goal
 

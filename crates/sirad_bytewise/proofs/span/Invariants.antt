@@ -1,10 +1,7 @@
-use borrow.Author.Rules.{rules}
-use Rattle.form.proofs.PieceLaws.{judges}
-use mathlib.Core.Path.{◌≡◌, refl, sym, ◌∙◌}
+use mathlib.Core.Path.{◌≡◌}
 use Rattle.form.specs.Form.{judge_at}
 use Rattle.sirad.specs.Sirad.{run}
 use Rattle.sirad.specs.Internal.{class_of}
-use Rattle.sirad.proofs.Runs.{run_next, run_halts, run_over}
 use Rattle.sirad_bytewise.proofs.span.Given as goal
 
 abbrev pub invariant-loop-left : goal.invariant-loop-left

@@ -1,5 +1,4 @@
 -- The four runs of a target, one after the other.
-use borrow.Author.Rules.{rules}
 use mathlib.Core.Path.{sym, ◌∙◌}
 use Rattle.form.proofs.PieceLaws.{go_on, halt}
 use Rattle.sirad.proofs.FrameLaws.{target_form}

@@ -1,9 +1,5 @@
 -- What is left of the blocks is judged as all are.
-use borrow.Author.Rules.{rules}
-use mathlib.Core.Path.{◌≡◌, refl, sym, ◌∙◌}
-use Rattle.form.specs.Form.{judge_at}
-use Rattle.sirad.specs.Rows.{blocks}
-use Rattle.sirad.specs.Sirad.{row}
+use mathlib.Core.Path.{refl, sym, ◌∙◌}
 use Rattle.sirad.proofs.FrameLaws.{blocks_next, blocks_halt, blocks_over}
 use Rattle.sirad_judge.proofs.blocks_from.Goals as goal
 

@@ -1,9 +1,7 @@
-use borrow.Author.Rules.{rules}
-use mathlib.Core.Path.{◌≡◌, refl, sym, ◌∙◌}
+use mathlib.Core.Path.{◌≡◌}
 use Rattle.form.specs.Form.{judge_at}
 use Rattle.sirad.specs.Rows.{blocks}
 use Rattle.sirad.specs.Sirad.{row}
-use Rattle.sirad.proofs.FrameLaws.{blocks_next, blocks_halt, blocks_over}
 use Rattle.sirad_judge.proofs.blocks_from.Given as goal
 
 abbrev pub invariant-loop-left : goal.invariant-loop-left

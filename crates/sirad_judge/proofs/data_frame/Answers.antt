@@ -1,5 +1,4 @@
 -- The size, the run of reserved bytes and data, the stop marker.
-use borrow.Author.Rules.{rules}
 use mathlib.Core.Path.{sym, ◌∙◌}
 use Rattle.form.proofs.PieceLaws.{go_on, halt}
 use Rattle.sirad.specs.Rows.{data_pieces}

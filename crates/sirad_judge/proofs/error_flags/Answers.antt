@@ -1,5 +1,4 @@
 -- The digits, the stop marker.
-use borrow.Author.Rules.{rules}
 use mathlib.Core.Path.{sym, ◌∙◌}
 use Rattle.form.proofs.PieceLaws.{go_on, halt}
 use Rattle.sirad.proofs.FrameLaws.{error_form}

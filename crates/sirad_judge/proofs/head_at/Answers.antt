@@ -1,5 +1,4 @@
 -- A digit, then a character.
-use borrow.Author.Rules.{rules}
 use mathlib.Core.Path.{sym, ◌∙◌}
 use Rattle.form.proofs.PieceLaws.{go_on, halt, whole_there}
 use Rattle.sirad.proofs.FrameLaws.{head_form}

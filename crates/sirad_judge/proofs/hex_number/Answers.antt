@@ -1,13 +1,9 @@
 -- The digits left, with the number so far in front of them, are judged as all are; i digits give a number below 16 ^ i.
-use Prim.Native.Nat.{◌≤◌, ◌<◌, ◌-◌, ◌^◌}
-use borrow.Author.Rules.{rules}
 use lib.Dec.{lit<}
 use lib.ListN.{get_or}
-use mathlib.Core.Path.{◌≡◌, sym, ◌∙◌}
+use mathlib.Core.Path.{sym, ◌∙◌}
 use native.Mathlib.Omega.{arith}
 use Rattle.digits.proofs.HexLaws.{digit_small, hex_grows}
-use Rattle.form.specs.Form.{judge_at}
-use Rattle.sirad.specs.Sirad.{number}
 use Rattle.sirad.proofs.Numbers.{number_none, number_fits, number_ends, number_miss, number_hit, number_over}
 use Rattle.sirad_judge.proofs.hex_number.Goals as goal
 

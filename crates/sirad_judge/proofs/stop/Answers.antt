@@ -1,5 +1,4 @@
 -- The two stop bytes, one after the other.
-use borrow.Author.Rules.{rules}
 use mathlib.Core.Path.{sym, ◌∙◌}
 use Rattle.form.proofs.PieceLaws.{go_on, halt, whole_there}
 use Rattle.sirad.proofs.FrameLaws.{stop_form}

@@ -1,11 +1,7 @@
 -- While the flag is true, what is left of the run is judged as the whole run is.
-use Prim.Native.Nat.{◌≤◌, ◌-◌}
-use borrow.Author.Rules.{rules}
-use mathlib.Core.Bool.{true}
-use mathlib.Core.Path.{◌≡◌}
 use native.Mathlib.Omega.{arith}
 use Rattle.sirad.specs.Internal.{class_of}
-use Rattle.sirad.proofs.Runs.{Seen, seen_none, seen_next, seen_all}
+use Rattle.sirad.proofs.Runs.{seen_none, seen_next, seen_all}
 use Rattle.sirad_pieces.proofs.all_of.Goals as goal
 
 pub loop-i-init : goal.loop-i-init

@@ -1,10 +1,8 @@
 use Prim.Native.Nat.{◌≤◌, ◌-◌}
-use borrow.Author.Rules.{rules}
 use mathlib.Core.Bool.{true}
 use mathlib.Core.Path.{◌≡◌}
-use native.Mathlib.Omega.{arith}
 use Rattle.sirad.specs.Internal.{class_of}
-use Rattle.sirad.proofs.Runs.{Seen, seen_none, seen_next, seen_all}
+use Rattle.sirad.proofs.Runs.{Seen}
 use Rattle.sirad_pieces.proofs.all_of.Given as goal
 
 abbrev pub invariant-loop-i : goal.invariant-loop-i

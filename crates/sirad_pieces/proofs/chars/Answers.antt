@@ -1,11 +1,7 @@
 -- What is left of the run is judged as the whole run is; each turn takes a part of it.
-use borrow.Author.Rules.{rules}
 use Rattle.form.proofs.PieceLaws.{judges}
-use mathlib.Core.Path.{◌≡◌, refl, sym, ◌∙◌}
+use mathlib.Core.Path.{refl, sym, ◌∙◌}
 use native.Mathlib.Omega.{arith}
-use Rattle.form.specs.Form.{judge_at}
-use Rattle.sirad.specs.Sirad.{run}
-use Rattle.sirad.specs.Classes.{Char}
 use Rattle.sirad.proofs.Runs.{run_over, part_next, part_halts}
 use Rattle.sirad_pieces.proofs.chars.Goals as goal
 

@@ -1,5 +1,4 @@
 -- All seen at once, or else byte by byte.
-use borrow.Author.Rules.{rules}
 use mathlib.Core.Path.{sym}
 use Rattle.sirad_pieces.proofs.few_chars.Goals as goal
 

@@ -1,5 +1,4 @@
 -- The four runs behind a target's number, and the flag of all.
-use borrow.Author.Rules.{rules}
 use Rattle.sirad.proofs.FrameLaws.{behind_seen}
 use Rattle.sirad_pieces.proofs.seen_behind.Goals as goal
 

@@ -1,5 +1,4 @@
 -- The form that the first byte chooses, seen at once.
-use borrow.Author.Rules.{rules}
 use mathlib.Core.Path.{sym, ◌∙◌}
 use native.Mathlib.Omega.{arith}
 use Rattle.sirad.proofs.FrameLaws.{held_block, zeros_block}

@@ -1,7 +1,6 @@
 -- Not judged whole, bytes left, kind 0, a kind over 3, or the size.
 use native.Mathlib.Omega.{arith}
 use Rattle.sirad_fields.proofs.ReadingLaws.{halted_kind, other_size, same_size, data_low, data_high, data_made}
-use borrow.Author.Rules.{rules}
 use Rattle.sirad_read.proofs.read_data.Goals as goal
 
 pub returns-in_default : goal.returns-in_default

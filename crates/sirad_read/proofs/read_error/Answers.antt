@@ -2,7 +2,6 @@
 use mathlib.Core.Path.{◌∙◌}
 use native.Mathlib.Omega.{arith}
 use Rattle.sirad_fields.proofs.ReadingLaws.{halted_kind, other_size, same_size, error_refused, error_made}
-use borrow.Author.Rules.{rules}
 use Rattle.sirad_read.proofs.read_error.Goals as goal
 
 pub returns-in_default : goal.returns-in_default

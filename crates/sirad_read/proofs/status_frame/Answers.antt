@@ -1,6 +1,5 @@
 -- The accuracy first, which an edition that there is none of refuses; then format, gain and the other numbers at their offsets.
 use Rattle.sirad_fields.proofs.ReadingLaws.{status_unnamed, status_made}
-use borrow.Author.Rules.{rules}
 use Rattle.sirad_read.proofs.status_frame.Goals as goal
 
 pub returns-then-rounded-ne0 : goal.returns-then-rounded-ne0

@@ -1,6 +1,5 @@
 -- Start, flags and stop, one behind the other.
 use Rattle.sirad_fields.proofs.FrameStores.{error_stored}
-use borrow.Author.Rules.{rules}
 use Rattle.sirad_write.proofs.put_error.Goals as goal
 
 pub returns : goal.returns

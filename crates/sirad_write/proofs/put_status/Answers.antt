@@ -1,7 +1,6 @@
 -- Start, format and gain, five numbers and stop, one behind the other.
 use native.Mathlib.Omega.{arith}
 use Rattle.sirad_fields.proofs.FrameStores.{head_stored, status_stored}
-use borrow.Author.Rules.{rules}
 use Rattle.sirad_write.proofs.put_status.Goals as goal
 
 pub returns : goal.returns

@@ -5,7 +5,6 @@ use Rattle.sirad_fields.specs.Fields.{error_refusal, error_bytes}
 use Rattle.digits.proofs.RefusalLaws.{none_refused, all_written, refused_written}
 use Rattle.sirad_fields.proofs.FrameStores.{error_size}
 use Rattle.sirad_fields.proofs.WritingLaws.{error_fits}
-use borrow.Author.Rules.{rules}
 use Rattle.sirad_write.proofs.write_error.Goals as goal
 
 pub returns-then-refusal-ne0 : goal.returns-then-refusal-ne0

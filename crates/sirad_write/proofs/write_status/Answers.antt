@@ -5,7 +5,6 @@ use Rattle.sirad_fields.specs.Fields.{unencoded, status_numbers, status_refusal,
 use Rattle.digits.proofs.RefusalLaws.{none_refused, all_written, refused_written}
 use Rattle.sirad_fields.proofs.FrameStores.{status_size}
 use Rattle.sirad_fields.proofs.WritingLaws.{status_fit}
-use borrow.Author.Rules.{rules}
 use Rattle.sirad_write.proofs.write_status.Goals as goal
 
 pub returns-then-refusal-ne0 : goal.returns-then-refusal-ne0

@@ -1,12 +1,9 @@
 -- The characters left fit exactly if all do.
-use mathlib.Core.Path.{◌≡◌, sym, ◌∙◌}
+use mathlib.Core.Path.{sym, ◌∙◌}
 use native.Mathlib.Omega.{arith}
-use Prim.Native.Nat.{◌-◌, ◌≤◌}
 use native.Mathlib.Nat.{sub-zero}
 use lib.ListN.{length}
-use Rattle.sirad.specs.Rows.{characters}
-use Rattle.sirad_fields.specs.Values.{fit}
-use Rattle.sirad_fields.proofs.WritingLaws.{left_characters, characters_next, characters_fail, characters_over}
+use Rattle.sirad_fields.proofs.WritingLaws.{characters_next, characters_fail, characters_over}
 use Rattle.sirad_write_data.proofs.all_characters.Goals as goal
 
 pub loop-i-init : goal.loop-i-init

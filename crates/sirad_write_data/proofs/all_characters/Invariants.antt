@@ -1,11 +1,9 @@
-use mathlib.Core.Path.{◌≡◌, sym, ◌∙◌}
-use native.Mathlib.Omega.{arith}
+use mathlib.Core.Path.{◌≡◌}
 use Prim.Native.Nat.{◌-◌, ◌≤◌}
-use native.Mathlib.Nat.{sub-zero}
 use lib.ListN.{length}
 use Rattle.sirad.specs.Rows.{characters}
 use Rattle.sirad_fields.specs.Values.{fit}
-use Rattle.sirad_fields.proofs.WritingLaws.{left_characters, characters_next, characters_fail, characters_over}
+use Rattle.sirad_fields.proofs.WritingLaws.{left_characters}
 use Rattle.sirad_write_data.proofs.all_characters.Given as goal
 
 abbrev pub invariant-loop-i : goal.invariant-loop-i

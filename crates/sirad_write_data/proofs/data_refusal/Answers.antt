@@ -1,7 +1,6 @@
 -- Each return is one law: 53 twice, 52, nothing, 50.
 use native.Mathlib.Omega.{arith}
 use Rattle.sirad_fields.proofs.WritingLaws.{kind_low, kind_high, too_many, data_accepted, data_unencoded}
-use borrow.Author.Rules.{rules}
 use Rattle.sirad_write_data.proofs.data_refusal.Goals as goal
 
 pub returns-then-kind-lt-RANGE : goal.returns-then-kind-lt-RANGE

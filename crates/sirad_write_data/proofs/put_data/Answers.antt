@@ -1,6 +1,5 @@
 -- Start, size, reserved bytes, characters and stop, one behind the other.
 use Rattle.sirad_fields.proofs.FrameStores.{data_stored}
-use borrow.Author.Rules.{rules}
 use Rattle.sirad_write_data.proofs.put_data.Goals as goal
 
 pub returns : goal.returns

@@ -5,7 +5,6 @@ use Rattle.sirad_fields.specs.Fields.{data_refusal, data_bytes}
 use Rattle.digits.proofs.RefusalLaws.{none_refused, all_written, refused_written}
 use Rattle.sirad_fields.proofs.RoundTrips.{data_fits}
 use Rattle.sirad_fields.proofs.FrameStores.{data_size}
-use borrow.Author.Rules.{rules}
 use Rattle.sirad_write_data.proofs.write_data.Goals as goal
 
 pub returns-then-refusal-ne0 : goal.returns-then-refusal-ne0

@@ -1,9 +1,7 @@
 -- Storing the bytes left gives what storing all of them gave.
-use mathlib.Core.Path.{◌≡◌, refl, sym, ◌∙◌}
-use Prim.Native.Nat.{◌+◌, ◌-◌, ◌≤◌}
+use mathlib.Core.Path.{refl, sym, ◌∙◌}
 use native.Mathlib.Omega.{arith}
-use lib.ListN.{length, drop, length-set}
-use Rattle.digits.specs.Stores.{stored}
+use lib.ListN.{length-set}
 use Rattle.digits.proofs.StoreLaws.{within_fits, within_unfit}
 use Rattle.digits.proofs.StoreSteps.{store_start, store_next, store_end}
 use Rattle.stores.proofs.put_bytes.Goals as goal

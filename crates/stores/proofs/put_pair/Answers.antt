@@ -4,7 +4,6 @@ use native.Mathlib.Omega.{arith}
 use lib.ListN.{length-set}
 use Rattle.digits.proofs.StoreLaws.{within_unfit}
 use Rattle.digits.proofs.StoreSteps.{two_stores}
-use borrow.Author.Rules.{rules}
 use Rattle.stores.proofs.put_pair.Goals as goal
 
 pub returns-then-out-at : goal.returns-then-out-at

@@ -1,9 +1,7 @@
 -- Storing the bytes left gives what storing all of them gave.
-use mathlib.Core.Path.{◌≡◌, refl, sym, ◌∙◌}
-use Prim.Native.Nat.{◌+◌, ◌-◌, ◌≤◌}
+use mathlib.Core.Path.{refl, sym, ◌∙◌}
 use native.Mathlib.Omega.{arith}
-use lib.ListN.{length, drop, replicate, length-set}
-use Rattle.digits.specs.Stores.{stored}
+use lib.ListN.{replicate, length-set}
 use Rattle.digits.proofs.StoreSteps.{store_start, run_next, run_end, run_fits, run_unfit}
 use Rattle.stores.proofs.put_run.Goals as goal
 

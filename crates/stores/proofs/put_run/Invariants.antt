@@ -1,15 +1,13 @@
-use mathlib.Core.Path.{◌≡◌, refl, sym, ◌∙◌}
+use mathlib.Core.Path.{◌≡◌}
 use Prim.Native.Nat.{◌+◌, ◌-◌, ◌≤◌}
-use native.Mathlib.Omega.{arith}
-use lib.ListN.{length, drop, replicate, length-set}
+use lib.ListN.{length, drop, replicate}
 use Rattle.digits.specs.Stores.{stored}
-use Rattle.digits.proofs.StoreSteps.{store_start, run_next, run_end, run_fits, run_unfit}
 use Rattle.stores.proofs.put_run.Given as goal
 
 abbrev pub invariant-loop-i : goal.invariant-loop-i
 invariant-loop-i l =
     (l.i ≤ l.n) × (length l.out ≡ length l.initial.out) × (stored l.out (l.at + l.i) (drop l.i (replicate l.n l.b))
-        ≡ stored l.initial.out l.at (replicate l.n l.b))
+    ≡ stored l.initial.out l.at (replicate l.n l.b))
 
 abbrev pub decreases-loop-i : goal.decreases-loop-i
 decreases-loop-i l = l.n - l.i

@@ -1,5 +1,5 @@
 -- `units::accuracy_to_millimetres` meets its contract: tenths to whole millimetres by the edition.
-use Rattle.std.proofs.Common.{sym, ◌∙◌, arith, rules}
+use Rattle.std.proofs.Common.{sym, ◌∙◌, arith}
 use Rattle.units.proofs.Machine.{accuracy_small, accuracy_known, accuracy_unknown}
 use Rattle.units.proofs.accuracy_to_millimetres.Goals as goal
 

@@ -1,5 +1,5 @@
 -- `units::coordinate_to_millimetres` meets its contract: each edition by its rule, any other number refused.
-use Rattle.std.proofs.Common.{◌∙◌, rules}
+use Rattle.std.proofs.Common.{◌∙◌}
 use Rattle.units.proofs.Machine.{first_edition, second_edition, no_edition}
 use Rattle.units.proofs.coordinate_to_millimetres.Goals as goal
 

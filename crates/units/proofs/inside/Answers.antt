@@ -1,5 +1,5 @@
 -- `units::inside` meets its contract: off the half the parts round by themselves, without a rest below it they are a number of halves.
-use Rattle.std.proofs.Common.{◌≡◌, ℕ, ◌+◌, ◌/◌, ◌^◌, ◌<◌, ap, ◌∙◌, arith, lit<, rules}
+use Rattle.std.proofs.Common.{◌≡◌, ℕ, ◌+◌, ◌/◌, ◌^◌, ◌<◌, ap, ◌∙◌, arith, lit<}
 use Rattle.units.specs.Rounding.{nearest}
 use Rattle.units.specs.Units.{ties_of}
 use Rattle.units.specs.Internal.{Inside, parts}
@@ -42,7 +42,7 @@ off_edition c =
     let edition = c.args.edition in
     let p = c.parts_of-parts.result in
     elim c.if-parts-eq0.branch [
-      then-parts-eq0+else-edition-ne-AWAY_EDITION w ↦ half_away edition p w.if-edition-ne-AWAY_EDITION.false
+      | then-parts-eq0+else-edition-ne-AWAY_EDITION w ↦ half_away edition p w.if-edition-ne-AWAY_EDITION.false
       | else-parts-eq0 w ↦ off_half (ties_of edition) p w.if-parts-eq0.false
     ]
     ∙ ap (λ (x : ℕ). nearest (ties_of edition) x (2 ^ 32)) c.parts_of-parts.ensures

@@ -1,5 +1,5 @@
 -- `units::millimetres_by` meets its contract: inside 2 ^ -12 m to 1000 m the nearest whole millimetre, else a refusal or 0.
-use Rattle.std.proofs.Common.{ap, ◌∙◌, arith, rules}
+use Rattle.std.proofs.Common.{ap, ◌∙◌, arith}
 use Rattle.units.specs.Units.{refused}
 use Rattle.units.proofs.Machine.{over_near, coordinate_outside}
 use Rattle.units.proofs.millimetres_by.Goals as goal

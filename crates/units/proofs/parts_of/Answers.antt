@@ -1,5 +1,5 @@
 -- `units::parts_of` meets its contract: no part is lost in the shift.
-use Rattle.std.proofs.Common.{lt_trans, mod-eq_of_lt, lit<, rules}
+use Rattle.std.proofs.Common.{lt_trans, mod-eq_of_lt, lit<}
 use Rattle.units.specs.Internal.{parts}
 use Rattle.units.proofs.Machine.{parts_less}
 use Rattle.units.proofs.parts_of.Goals as goal

@@ -1,5 +1,5 @@
 -- `units::refusal_number` meets its contract: its tests are those of the definition.
-use Rattle.std.proofs.Common.{rules, le-leb}
+use Rattle.std.proofs.Common.{le-leb}
 use borrow.Author.Tests.{lt-leb}
 use Rattle.units.proofs.refusal_number.Goals as goal
 

@@ -1,5 +1,5 @@
 -- `units::rounded` meets its contract: the division is the closed form of the nearest whole number.
-use Rattle.std.proofs.Common.{◌/◌, refl, arith, rules}
+use Rattle.std.proofs.Common.{◌/◌, refl, arith}
 use Rattle.units.specs.Rounding.{nearest}
 use Rattle.units.specs.Units.{ties_of}
 use Rattle.units.proofs.Rounding.{half_most}

@@ -1,5 +1,4 @@
 -- `units::signed_quantity` meets its contract: the sign is made here, of a magnitude that fits.
-use Rattle.std.proofs.Common.{rules}
 use Rattle.units.proofs.Machine.{minus_fits, made_negative, made_positive}
 use Rattle.units.proofs.signed_quantity.Goals as goal
 
