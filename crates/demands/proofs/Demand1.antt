@@ -232,7 +232,7 @@ millimetres_refuse edition bits =
     (λ named.
     when_test numbers.refused quantity_number (λ n. refl) (31 when (1000 * 2 ^ 150 < magnitude bits) else none) 30
     (not_finite bits) (eqb-true (exponent bits) 255, eq-eqb (exponent bits) 255) (millimetres edition bits)
-        (λ infinite. rw (named, infinite))
+    (λ infinite. rw (named, infinite))
     (λ finite.
     when_test numbers.refused quantity_number (λ n. refl) none 31
     (ltb (1000 * 2 ^ 150) (magnitude bits)) (less_exactly (1000 * 2 ^ 150) (magnitude bits)) (millimetres edition bits)

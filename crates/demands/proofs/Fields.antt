@@ -36,7 +36,7 @@ pub header_refuses : say.HeaderRefuses
 unfolding header_of
 header_refuses kind bs =
     unless_test no_header (λ (a : PacketHeader). a.refusal) (λ n. refl) none 5 (is_packet kind bs) (packet_exactly kind bs)
-        (header_of kind bs)
+    (header_of kind bs)
     (λ f. rw f) (λ y. fine no_header (λ (a : PacketHeader). a.refusal) (λ n. refl) (header_of kind bs) (rw y))
 
 pub record_refuses : say.RecordRefuses

@@ -64,7 +64,7 @@ abbrev pub RefusedLineIsEmpty : Type 0
 RefusedLineIsEmpty =
     (dialect : ℕ) (main standby : List ℕ) (closed : Bool) (room : ℕ)
     → (((read_answer (dialect_of dialect) closed main room).refusal ≡ 0)
-        × ((read_answer (dialect_of dialect) closed standby room).refusal ≡ 0)
+    × ((read_answer (dialect_of dialect) closed standby room).refusal ≡ 0)
     → ⊥) → part_of (dialect_of dialect) main standby ≡ empty_part
 
 -- -- Fields of SiRad frames: "5 slice is not exactly one whole frame of the wanted kind", and for U frames 32 (paper 02, (iv))

@@ -171,7 +171,7 @@ abbrev pub DataWritesBack : Type 0
 DataWritesBack =
     (bs out : List ℕ) (r : Written) (after : List ℕ) → (read_data bs).refusal ≡ 0 → length bs ≤ length out
     → Writes (data_refusal (read_data bs).kind (part_of (read_data bs) bs)) (data_bytes (read_data bs).kind (part_of (read_data bs) bs))
-        out r after
+    out r after
     → FrameAgain (read_data bs).kind bs out r after
 
 -- targets

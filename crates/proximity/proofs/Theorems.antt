@@ -228,8 +228,12 @@ module _ (edition d : ℕ) (bs : List ℕ) where
   from_found (suc n) i j h = test (close i) (λ y. here y (rw y at h)) (λ f. later f (from_found n (i + 1) j (rw f at h)))
     where
       here : close i ≡ true → At i ≡ At j → (i ≤ j) × CloseIn edition d bs j × ((k : ℕ) → i ≤ k → k < j → CloseIn edition d bs k → ⊥)
-      here y e = let s : i ≡ j = cc in (omega arith, rw s at ((close_exactly d (point_of edition bs i)).0 y), λ k p q c. absurd
-          (omega arith))
+      here y e = let s : i ≡ j = cc in (
+        omega arith,
+        rw s at ((close_exactly d (point_of edition bs i)).0 y),
+        λ k p q c. absurd
+            (omega arith),
+      )
 
       later : close i ≡ false → (i + 1 ≤ j) × CloseIn edition d bs j × ((k : ℕ) → i + 1 ≤ k → k < j → CloseIn edition d bs k → ⊥)
           → (i ≤ j) × CloseIn edition d bs j × ((k : ℕ) → i ≤ k → k < j → CloseIn edition d bs k → ⊥)

@@ -104,7 +104,7 @@ empty_exactly bs q r h =
     let f = (targets_by_blocks bs).0 (judged_frame sirad 4 bs (kind_whole 4 bs (omega arith) k)) in
     let read : get_or (targets_of 16 (values (blocks 16) (drop 4 bs))) q no_target ≡ target_at (4 + 14 * q) bs = target_of 16 q 4 bs h in
     let same : get_or (read_targets bs).targets q no_target ≡ target_at (4 + 14 * q) bs = rw
-        (k, drop-drop 1 2 bs, drop-drop 1 3 bs) read in (
+    (k, drop-drop 1 2 bs, drop-drop 1 3 bs) read in (
       (λ e. empty_block bs q h f (empty_told (4 + 14 * q) bs (sym same ∙ e))),
       (λ z. same ∙ rw (block_empty bs q h f z)),
     )

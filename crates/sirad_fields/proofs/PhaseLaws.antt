@@ -38,7 +38,7 @@ signed_bits (negsuc n) h = rw (lt-leb (65535 - n) 32767 (omega arith)) (ap negsu
 module _ (n : ℕ) (next : (vs : List ℕ) → fit (blocks n) vs ≡ true → block_numbers (targets_of n vs) ≡ vs) where
   held_numbers : (vs : List ℕ) → target_fits vs ≡ true → fit (blocks n) (drop 4 vs) ≡ true
       → 0 ∷ get_or vs 0 0 ∷ get_or vs 1 0 ∷ get_or vs 2 0 ∷ bits_of (signed (get_or vs 3 0)) ∷ block_numbers
-          (targets_of n (drop 4 vs)) ≡ 0 ∷ vs
+      (targets_of n (drop 4 vs)) ≡ 0 ∷ vs
   held_numbers [] f r = both_ways false f refl
   held_numbers (a ∷ []) f r = both_ways false f refl
   held_numbers (a ∷ b ∷ []) f r = both_ways false f refl

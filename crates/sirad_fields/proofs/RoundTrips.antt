@@ -95,8 +95,12 @@ status_read_writes_back edition bs h =
 
 -- targets that are written are read back, and empty blocks as empty
 pub targets_written_read_back : (format gain : ℕ) (ts : List Target) → Phases ts → targets_refusal format gain ts ≡ 0
-    → ReadsBack 4 (targets_bytes format gain ts) read_targets (record { refusal = 0; format = format; gain = gain;
-        targets = all_carried ts })
+    → ReadsBack 4 (targets_bytes format gain ts) read_targets (record {
+      refusal = 0;
+      format = format;
+      gain = gain;
+      targets = all_carried ts;
+    })
 unfolding read_targets target_numbers fit
 targets_written_read_back format gain ts p h =
     let vs = target_numbers format gain ts in
@@ -219,7 +223,7 @@ module _ (k : ℕ) (cs : List ℕ) (d : DataFits k cs) where
   data_part =
       let g = data_of k (data_bytes k cs) low high data_kind in
       let e : values (r_pieces (length cs)) (drop 2 (data_bytes k cs))
-          ≡ data_numbers (take (length cs) (drop data_start (data_bytes k cs))) =
+      ≡ data_numbers (take (length cs) (drop data_start (data_bytes k cs))) =
       rw data_size at g.numbers in
       ap (drop 1) (sym e ∙ data_numbers_lem)
 

@@ -17,7 +17,7 @@ returns-then-m-ne0 c =
 pub returns-then-s-ne0 : goal.returns-then-s-ne0
 returns-then-s-ne0 c =
     c.row_part-then-s-ne0.ensures ∙ standby_first _ _ _ _ _ c.if-main-gt-MAX_BYTES.false c.if-standby-gt-MAX_BYTES.false
-        c.first_frame-m.ensures
+    c.first_frame-m.ensures
     c.if-m-ne0.false c.first_frame-s.ensures c.if-s-ne0.true
 
 pub returns : goal.returns

@@ -12,11 +12,11 @@ pub loop-left-init : goal.loop-left-init
 unfolding decimal
 loop-left-init c =
     let a = c.args in (
-  omega arith,
-  c.width_of-n.ensures ∙ sym (length_decimal a.v),
-  refl,
-  ap (λ (n : ℕ). stored a.out.now a.at (decimals n a.v)) c.width_of-n.ensures,
-)
+      omega arith,
+      c.width_of-n.ensures ∙ sym (length_decimal a.v),
+      refl,
+      ap (λ (n : ℕ). stored a.out.now a.at (decimals n a.v)) c.width_of-n.ensures,
+    )
 
 pub loop-left-preserved : goal.loop-left-preserved
 loop-left-preserved c =

@@ -34,7 +34,7 @@ returns-then-seen-mark-ne0 t c =
     let there = first_there _ _ _ _ c.if-k-eq0.false c.requires.0 in
     let a = c.args in
     let read : TypeRead (profile_of a.d) a.k a.at a.s.now.now c.field-tag.result c.mark_of-mark.result =
-        record { some = c.if-k-eq0.false; type_is = c.field-tag.ensures; mark_is = c.mark_of-mark.ensures } in
+    record { some = c.if-k-eq0.false; type_is = c.field-tag.ensures; mark_is = c.mark_of-mark.ensures } in
     settled_repeat _ _ _ _ read c.if-seen-mark-ne0.true (omega arith)
 
 pub overflow_sub-room : goal.overflow_sub-room
@@ -54,12 +54,12 @@ pub returns : goal.returns
 returns t c =
     let a = c.args in
     let read : FirstRead (profile_of a.d) a.objects a.seen a.k a.room a.at a.s.now.now
-        c.field-tag.result c.mark_of-mark.result c.rule_of-rule.result c.field-m.result c.length_ok.result =
-        record {
-          type_read = record { some = c.if-k-eq0.false; type_is = c.field-tag.ensures; mark_is = c.mark_of-mark.ensures };
-          unseen = c.if-seen-mark-ne0.false;
-          rule_is = c.rule_of-rule.ensures;
-          length_is = c.field-m.ensures;
-          test_is = c.length_ok.ensures;
-        } in
+    c.field-tag.result c.mark_of-mark.result c.rule_of-rule.result c.field-m.result c.length_ok.result =
+    record {
+      type_read = record { some = c.if-k-eq0.false; type_is = c.field-tag.ensures; mark_is = c.mark_of-mark.ensures };
+      unseen = c.if-seen-mark-ne0.false;
+      rule_is = c.rule_of-rule.ensures;
+      length_is = c.field-m.ensures;
+      test_is = c.length_ok.ensures;
+    } in
     settled_refused _ read c.if-length_ok.false c.refusal_of.ensures (first_there _ _ _ _ c.if-k-eq0.false c.requires.0)

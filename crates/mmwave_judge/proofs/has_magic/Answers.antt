@@ -15,8 +15,7 @@ returns-then-same_four c =
 
 -- they are not
 pub returns : goal.returns
-returns c =
-    (
+returns c = (
   λ e. both_ways false e refl,
   λ e m. c.same_four.ensures.1 c.if-same_four.false (magic_fours c.args.s.now c.requires m).0,
 )
