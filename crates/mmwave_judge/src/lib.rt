@@ -3,7 +3,7 @@
 
 ghost use Rattle.std.specs.Prelude.{◌≡◌, true, false, ◌+◌, ◌-◌, ◌*◌, ◌≤◌, length, take};
 ghost use Rattle.digits.specs.LittleEndian.{little_at};
-ghost use Rattle.form.specs.Form.{judge as Form·judge, judge_at};
+ghost use Rattle.form.specs.Form.{judge as judge_form, judge_at};
 ghost use Rattle.form.specs.Numbers.{Judges};
 ghost use Rattle.mmwave.specs.Packet.{magic, records, packet};
 ghost use Rattle.mmwave.specs.Dialects.{profile_of};
@@ -53,7 +53,7 @@ fn behind_header(s: &[u8], l: u32, objects: u32, k: u32, d: PacketDialect) -> Ju
 // The judgement where the header is there.
 fn judge_header(s: &[u8], d: PacketDialect) -> Judgement
     requires { 40 ≤ length s.now }
-    ensures { result ≡ Form·judge (packet (profile_of d)) 0 s.now }
+    ensures { result ≡ judge_form (packet (profile_of d)) 0 s.now }
 {
     if has_magic(s) {
         let l = number(s, Header::TOTAL);

@@ -1,5 +1,5 @@
 // A record of the packet that a reader holds, with the part of the slice that is its payload (paper 01, "Fields"; paper 02, (i)). `show` is
-// thin, since it is proved by a walk of its code by hand; the work is done by functions on a plain slice.
+// thin; the work is done by functions on a plain slice.
 #![tactic(auto)]
 
 ghost use Rattle.std.specs.Prelude.{◌≡◌};

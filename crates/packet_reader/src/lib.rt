@@ -1,5 +1,5 @@
 // The packet reader: it holds the lent bytes, the offset of its next record and the kind of packet that it reads (paper 01, "Fields";
-// paper 02, (i)). The functions over it are thin, since each is proved by a walk of its code by hand; the work is done on a plain slice.
+// paper 02, (i)). The functions over it are thin; the work is done on a plain slice.
 #![tactic(auto)]
 
 ghost use Rattle.std.specs.Prelude.{◌≡◌};
@@ -55,7 +55,7 @@ pub fn step<'s, 'a>(r: &'s mut PacketReader<'a>) -> PacketStep
     s
 }
 
-// The first step of a reader of these bytes: whoever calls it needs no walk by hand.
+// The first step of a reader of these bytes.
 pub fn first_step(kind: u32, bytes: &[u8]) -> PacketStep
     ensures { result ≡ step_of kind bytes.now 40 }
 {
