@@ -5,11 +5,14 @@
 
 use capture::Part;
 use capture_lines::{choose_line, choose_part};
-use libc::{STDIN_FILENO, STDOUT_FILENO};
+use std::io;
+use std::io::Read;
 
-fn field(n: u64) {
-    io::write_all(STDOUT_FILENO, b" ");
-    io::print_decimal(STDOUT_FILENO, n);
+// The most bytes of input that are read.
+const MOST_INPUT: u64 = 65536;
+
+fn field(rt: &impl Print, n: u64) -> io::Result<()> {
+    print!(rt; " {n}")
 }
 
 fn mixed(sum: u64, b: u8) -> u64 {
@@ -26,59 +29,62 @@ fn checksum(bytes: &[u8]) -> u64 {
     sum
 }
 
-fn print_part(p: Part, line: &[u8]) {
-    io::write_all(STDOUT_FILENO, b" |");
-    field(p.standby as u64);
-    field(p.offset as u64);
-    field(p.size as u64);
-    field(line.len() as u64);
-    field(checksum(line));
-    io::write_all(STDOUT_FILENO, b"\n");
+fn print_part(rt: &impl Print, p: Part, line: &[u8]) -> io::Result<()> {
+    rt.print(" |")?;
+    field(rt, p.standby as u64)?;
+    field(rt, p.offset as u64)?;
+    field(rt, p.size as u64)?;
+    field(rt, line.len() as u64)?;
+    field(rt, checksum(line))?;
+    rt.print("\n")
 }
 
-fn choose_all(dialect: u32, bytes: &[u8]) {
+fn choose_all(rt: &impl Print, dialect: u32, bytes: &[u8]) -> io::Result<()> {
     let mut k: usize = 0;
     while k <= bytes.len() {
         let main = &bytes[..k];
         let standby = &bytes[k..];
-        io::write_all(STDOUT_FILENO, b"split");
-        field(k as u64);
+        rt.print("split")?;
+        field(rt, k as u64)?;
         print_part(
+            rt,
             choose_part(dialect, main, standby),
             choose_line(dialect, main, standby),
-        );
+        )?;
         k = k + 1;
     }
+    Ok(())
 }
 
-fn case(dialect: u8, bytes: &[u8]) {
-    io::write_all(STDOUT_FILENO, b"capture");
-    field(dialect as u64);
-    field(bytes.len() as u64);
-    io::write_all(STDOUT_FILENO, b"\n");
-    choose_all(dialect as u32, bytes);
+fn case(rt: &impl Print, dialect: u8, bytes: &[u8]) -> io::Result<()> {
+    rt.print("capture")?;
+    field(rt, dialect as u64)?;
+    field(rt, bytes.len() as u64)?;
+    rt.print("\n")?;
+    choose_all(rt, dialect as u32, bytes)
 }
 
 fn size_of(low: u8, high: u8) -> usize {
     low as usize + 256 * (high as usize)
 }
 
-fn cases(input: &[u8]) {
+fn cases(rt: &impl Print, input: &[u8]) -> io::Result<()> {
     let mut at: usize = 0;
     while 3 <= input.len() - at {
         let from = at + 3;
         let size = size_of(input[at + 1], input[at + 2]);
         if input.len() - from < size {
-            return;
+            return Ok(());
         }
         let to = from + size;
-        case(input[at], &input[from..to]);
+        case(rt, input[at], &input[from..to])?;
         at = to;
     }
+    Ok(())
 }
 
-fn main() {
-    let mut input = io::large_buffer();
-    let n = io::read_full(STDIN_FILENO, &mut input);
-    cases(&input[..n]);
+fn main(rt: HostRuntime) -> io::Result<()> {
+    let mut input = Vec::new(rt.alloc());
+    rt.reader().take(MOST_INPUT).read_to_end(&mut input)?;
+    cases(&rt, &input)
 }

@@ -4,9 +4,8 @@
 
 ghost use Rattle.std.specs.Prelude.{◌≤◌, ◌<◌};
 
+use std::io;
 use units::{Accuracy, Quantity};
-
-const OUT: i32 = 1;
 
 // A step of the exponent, the sign bit, and the fractions that a line tries.
 const EXPONENT_STEP: u32 = 0x800000;
@@ -28,173 +27,164 @@ fn magnitude_of(z: i32) -> u64 {
     wide as u64
 }
 
-fn print_signed(z: i32) {
+fn print_signed(rt: &impl Print, z: i32) -> io::Result<()> {
     if z < 0 {
-        io::write_all(OUT, b"-");
+        rt.print("-")?;
     }
-    io::print_decimal(OUT, magnitude_of(z));
+    rt.print(magnitude_of(z))
 }
 
-fn print_refusal(number: u32) {
-    io::write_all(OUT, b"refused ");
-    io::print_decimal(OUT, number as u64);
+fn print_refusal(rt: &impl Print, number: u32) -> io::Result<()> {
+    print!(rt; "refused {number}")
 }
 
 // A tab, and the value or the refusal.
-fn print_quantity(q: Quantity) {
-    io::write_all(OUT, b"\t");
+fn print_quantity(rt: &impl Print, q: Quantity) -> io::Result<()> {
+    rt.print("\t")?;
     if q.refusal != 0 {
-        print_refusal(q.refusal);
-        return;
+        return print_refusal(rt, q.refusal);
     }
-    print_signed(q.value);
+    print_signed(rt, q.value)
 }
 
-fn end_line() {
-    io::write_all(OUT, b"\n");
+fn end_line(rt: &impl Print) -> io::Result<()> {
+    rt.print("\n")
 }
 
 // The same of an accuracy.
-fn print_accuracy(a: Accuracy) {
-    io::write_all(OUT, b"\t");
+fn print_accuracy(rt: &impl Print, a: Accuracy) -> io::Result<()> {
+    rt.print("\t")?;
     if a.refusal != 0 {
-        print_refusal(a.refusal);
-        return;
+        return print_refusal(rt, a.refusal);
     }
-    io::print_decimal(OUT, a.millimetres as u64);
+    rt.print(a.millimetres)
 }
 
 // The rule, the edition, the bits and their millimetres.
-fn float(edition: u32, bits: u32) {
-    io::write_all(OUT, b"float\t");
-    io::print_decimal(OUT, edition as u64);
-    io::write_all(OUT, b"\t");
-    io::print_hex(OUT, bits as u64, 8);
-    print_quantity(units::coordinate_to_millimetres(edition, bits));
-    end_line();
+fn float(rt: &impl Print, edition: u32, bits: u32) -> io::Result<()> {
+    print!(rt; "float\t{edition}\t{bits:08x}")?;
+    print_quantity(rt, units::coordinate_to_millimetres(edition, bits))?;
+    end_line(rt)
 }
 
-fn decibels(character: u8) {
-    io::write_all(OUT, b"dB\t-\t");
-    io::print_decimal(OUT, character as u64);
-    print_quantity(character_units::decibels_of(character));
-    end_line();
+fn decibels(rt: &impl Print, character: u8) -> io::Result<()> {
+    print!(rt; "dB\t-\t{character}")?;
+    print_quantity(rt, character_units::decibels_of(character))?;
+    end_line(rt)
 }
 
-fn phase(character: u8) {
-    io::write_all(OUT, b"phase\t-\t");
-    io::print_decimal(OUT, character as u64);
-    print_quantity(character_units::centidegrees_of(character));
-    end_line();
+fn phase(rt: &impl Print, character: u8) -> io::Result<()> {
+    print!(rt; "phase\t-\t{character}")?;
+    print_quantity(rt, character_units::centidegrees_of(character))?;
+    end_line(rt)
 }
 
-fn accuracy(edition: u32, tenths: u16) {
-    io::write_all(OUT, b"accuracy\t");
-    io::print_decimal(OUT, edition as u64);
-    io::write_all(OUT, b"\t");
-    io::print_hex(OUT, tenths as u64, 4);
-    print_accuracy(units::accuracy_to_millimetres(edition, tenths));
-    end_line();
+fn accuracy(rt: &impl Print, edition: u32, tenths: u16) -> io::Result<()> {
+    print!(rt; "accuracy\t{edition}\t{tenths:04x}")?;
+    print_accuracy(rt, units::accuracy_to_millimetres(edition, tenths))?;
+    end_line(rt)
 }
 
 // The floats of the paper's table, in its order, by an edition.
-fn table_floats(edition: u32) {
-    float(edition, 0x3D800000);
-    float(edition, 0xBD800000);
-    float(edition, 0x3E400000);
-    float(edition, 0xBE400000);
-    float(edition, 0x80000000);
-    float(edition, 0x447A0000);
-    float(edition, 0x447A0001);
-    float(edition, 0x7F800000);
+fn table_floats(rt: &impl Print, edition: u32) -> io::Result<()> {
+    float(rt, edition, 0x3D800000)?;
+    float(rt, edition, 0xBD800000)?;
+    float(rt, edition, 0x3E400000)?;
+    float(rt, edition, 0xBE400000)?;
+    float(rt, edition, 0x80000000)?;
+    float(rt, edition, 0x447A0000)?;
+    float(rt, edition, 0x447A0001)?;
+    float(rt, edition, 0x7F800000)
 }
 
 // Floats that have a value, are infinite and are too far, by an edition that there is none of.
-fn refused_floats(edition: u32) {
-    float(edition, 0x3D800000);
-    float(edition, 0x7F800000);
-    float(edition, 0x447A0001);
+fn refused_floats(rt: &impl Print, edition: u32) -> io::Result<()> {
+    float(rt, edition, 0x3D800000)?;
+    float(rt, edition, 0x7F800000)?;
+    float(rt, edition, 0x447A0001)
 }
 
 // The accuracies of both papers by an edition, the one that document 000 works out, and the greatest.
-fn table_accuracies(edition: u32) {
-    accuracy(edition, 0x0005);
-    accuracy(edition, 0x000F);
-    accuracy(edition, 0x0019);
-    accuracy(edition, 0x0023);
-    accuracy(edition, 0x0205);
-    accuracy(edition, 0x0200);
-    accuracy(edition, 0xFFFF);
+fn table_accuracies(rt: &impl Print, edition: u32) -> io::Result<()> {
+    accuracy(rt, edition, 0x0005)?;
+    accuracy(rt, edition, 0x000F)?;
+    accuracy(rt, edition, 0x0019)?;
+    accuracy(rt, edition, 0x0023)?;
+    accuracy(rt, edition, 0x0205)?;
+    accuracy(rt, edition, 0x0200)?;
+    accuracy(rt, edition, 0xFFFF)
 }
 
-fn table() {
-    io::write_all(OUT, b"rule\tedition\tinput\tresult\n");
-    table_floats(1);
-    table_floats(2);
-    refused_floats(0);
-    refused_floats(3);
-    refused_floats(0xFFFFFFFF);
-    decibels(90);
-    phase(90);
-    phase(36);
-    table_accuracies(1);
-    table_accuracies(2);
-    accuracy(0, 0x0005);
-    accuracy(3, 0x0005);
-    accuracy(0xFFFFFFFF, 0x0005);
+fn table(rt: &impl Print) -> io::Result<()> {
+    rt.print("rule\tedition\tinput\tresult\n")?;
+    table_floats(rt, 1)?;
+    table_floats(rt, 2)?;
+    refused_floats(rt, 0)?;
+    refused_floats(rt, 3)?;
+    refused_floats(rt, 0xFFFFFFFF)?;
+    decibels(rt, 90)?;
+    phase(rt, 90)?;
+    phase(rt, 36)?;
+    table_accuracies(rt, 1)?;
+    table_accuracies(rt, 2)?;
+    accuracy(rt, 0, 0x0005)?;
+    accuracy(rt, 3, 0x0005)?;
+    accuracy(rt, 0xFFFFFFFF, 0x0005)
 }
 
-fn character(byte: u8) {
-    io::print_decimal(OUT, byte as u64);
-    print_quantity(character_units::decibels_of(byte));
-    print_quantity(character_units::centidegrees_of(byte));
-    end_line();
+fn character(rt: &impl Print, byte: u8) -> io::Result<()> {
+    rt.print(byte)?;
+    print_quantity(rt, character_units::decibels_of(byte))?;
+    print_quantity(rt, character_units::centidegrees_of(byte))?;
+    end_line(rt)
 }
 
-fn characters() {
-    io::write_all(OUT, b"byte\tdB\tphase\n");
+fn characters(rt: &impl Print) -> io::Result<()> {
+    rt.print("byte\tdB\tphase\n")?;
     for byte in 0..=255 {
-        character(byte);
+        character(rt, byte)?;
     }
+    Ok(())
 }
 
 // By an edition, the floats of one sign and exponent with the first two fractions, the middle one, those at 1000 m and the last.
-fn floats(edition: u32, start: u32)
+fn floats(rt: &impl Print, edition: u32, start: u32) -> io::Result<()>
     requires { start ≤ 4286578688 }
 {
-    print_quantity(units::coordinate_to_millimetres(edition, start));
-    print_quantity(units::coordinate_to_millimetres(edition, start + 1));
-    print_quantity(units::coordinate_to_millimetres(edition, start + HALF));
-    print_quantity(units::coordinate_to_millimetres(edition, start + LIMIT));
-    print_quantity(units::coordinate_to_millimetres(edition, start + LIMIT + 1));
-    print_quantity(units::coordinate_to_millimetres(edition, start + LAST));
+    print_quantity(rt, units::coordinate_to_millimetres(edition, start))?;
+    print_quantity(rt, units::coordinate_to_millimetres(edition, start + 1))?;
+    print_quantity(rt, units::coordinate_to_millimetres(edition, start + HALF))?;
+    print_quantity(rt, units::coordinate_to_millimetres(edition, start + LIMIT))?;
+    print_quantity(
+        rt,
+        units::coordinate_to_millimetres(edition, start + LIMIT + 1),
+    )?;
+    print_quantity(rt, units::coordinate_to_millimetres(edition, start + LAST))
 }
 
-fn exponent(edition: u32, e: u32)
+fn exponent(rt: &impl Print, edition: u32, e: u32) -> io::Result<()>
     requires { e < 256 }
 {
-    io::print_decimal(OUT, edition as u64);
-    io::write_all(OUT, b"\t");
-    io::print_decimal(OUT, e as u64);
+    print!(rt; "{edition}\t{e}")?;
     let start = EXPONENT_STEP * e;
-    floats(edition, start);
-    floats(edition, SIGN + start);
-    end_line();
+    floats(rt, edition, start)?;
+    floats(rt, edition, SIGN + start)?;
+    end_line(rt)
 }
 
-fn exponents(edition: u32) {
-    io::write_all(
-        OUT,
-        b"edition\texponent\t000000\t000001\t400000\t7a0000\t7a0001\t7fffff\t-000000\t-000001\t-400000\t-7a0000\t-7a0001\t-7fffff\n",
-    );
+fn exponents(rt: &impl Print, edition: u32) -> io::Result<()> {
+    rt.print(
+        "edition\texponent\t000000\t000001\t400000\t7a0000\t7a0001\t7fffff\t-000000\t-000001\t-400000\t-7a0000\t-7a0001\t-7fffff\n",
+    )?;
     for e in 0..256 {
-        exponent(edition, e);
+        exponent(rt, edition, e)?;
     }
+    Ok(())
 }
 
-fn main() {
-    table();
-    characters();
-    exponents(1);
-    exponents(2);
+fn main(rt: HostRuntime) -> io::Result<()> {
+    table(&rt)?;
+    characters(&rt)?;
+    exponents(&rt, 1)?;
+    exponents(&rt, 2)
 }

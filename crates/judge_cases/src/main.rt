@@ -4,54 +4,56 @@
 
 use case_input::{case_at, case_end};
 use form::Judgement;
-use libc::{STDIN_FILENO, STDOUT_FILENO};
 use mmwave::PacketDialect;
+use std::io;
+use std::io::Read;
 
-fn field(n: u64) {
-    io::write_all(STDOUT_FILENO, b" ");
-    io::print_decimal(STDOUT_FILENO, n);
+// The most bytes of input that are read.
+const MOST_INPUT: u64 = 65536;
+
+fn field(rt: &impl Print, n: u64) -> io::Result<()> {
+    print!(rt; " {n}")
 }
 
-fn print_judgement(j: Judgement) {
+fn print_judgement(rt: &impl Print, j: Judgement) -> io::Result<()> {
     match j {
         Judgement::Whole(kind, size) => {
-            io::write_all(STDOUT_FILENO, b" whole");
-            field(kind as u64);
-            field(size as u64);
+            rt.print(" whole")?;
+            field(rt, kind as u64)?;
+            field(rt, size as u64)
         }
         Judgement::Bad(reason) => {
-            io::write_all(STDOUT_FILENO, b" bad");
-            field(reason as u64);
+            rt.print(" bad")?;
+            field(rt, reason as u64)
         }
-        Judgement::Waiting => {
-            io::write_all(STDOUT_FILENO, b" waiting");
-        }
+        Judgement::Waiting => rt.print(" waiting"),
     }
 }
 
-fn judge_one(s: &[u8]) {
-    io::print_decimal(STDOUT_FILENO, s.len() as u64);
-    io::write_all(STDOUT_FILENO, b" sirad");
-    print_judgement(sirad_judge::judge(s));
-    io::write_all(STDOUT_FILENO, b" mmwave");
-    print_judgement(mmwave_judge::judge(s, PacketDialect::MmWave));
-    io::write_all(STDOUT_FILENO, b" vital");
-    print_judgement(mmwave_judge::judge(s, PacketDialect::VitalSigns));
-    io::write_all(STDOUT_FILENO, b"\n");
+fn judge_one(rt: &impl Print, s: &[u8]) -> io::Result<()> {
+    rt.print(s.len())?;
+    rt.print(" sirad")?;
+    print_judgement(rt, sirad_judge::judge(s))?;
+    rt.print(" mmwave")?;
+    print_judgement(rt, mmwave_judge::judge(s, PacketDialect::MmWave))?;
+    rt.print(" vital")?;
+    print_judgement(rt, mmwave_judge::judge(s, PacketDialect::VitalSigns))?;
+    rt.print("\n")
 }
 
-fn judge_all(input: &[u8]) {
+fn judge_all(rt: &impl Print, input: &[u8]) -> io::Result<()> {
     let mut at: usize = 0;
     let mut end = case_end(input, at);
     while at < end {
-        judge_one(case_at(input, at));
+        judge_one(rt, case_at(input, at))?;
         at = end;
         end = case_end(input, at);
     }
+    Ok(())
 }
 
-fn main() {
-    let mut input = io::large_buffer();
-    let n = io::read_full(STDIN_FILENO, &mut input);
-    judge_all(&input[..n]);
+fn main(rt: HostRuntime) -> io::Result<()> {
+    let mut input = Vec::new(rt.alloc());
+    rt.reader().take(MOST_INPUT).read_to_end(&mut input)?;
+    judge_all(&rt, &input)
 }

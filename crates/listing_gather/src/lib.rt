@@ -1,19 +1,20 @@
-// Standard input gathered in blocks (paper 01, "The listing").
+// An input gathered in blocks (paper 01, "The listing").
 #![tactic(auto)]
 
 ghost use Rattle.std.specs.Prelude.{◌≡◌, ◌+◌, ◌≤◌, ◌<◌, length};
 ghost use Rattle.listing.specs.Gather.{Gathers};
 ghost use Rattle.listing.specs.Internal.{Appends, Within};
+ghost use Rattle.listing_gather.specs.Known.{Takes, Holds};
 
 use listing::Input;
-
-const STANDARD_INPUT: i32 = 0;
+use std::io::{ErrorKind, Read};
 
 // How often in a row a signal may interrupt a read or a write; then it counts as failed.
 pub const MOST_TRIES: u32 = 1000000;
 
 fn least(a: usize, b: usize) -> usize
-    ensures { (result ≤ a) × (result ≤ b) × (0 < a → 0 < b → 0 < result) }
+    ensures least { (result ≤ a) × (result ≤ b) × (0 < a → 0 < b → 0 < result) }
+    ensures first { result < b → result ≡ a }
 {
     if a < b {
         return a;
@@ -25,7 +26,8 @@ fn least(a: usize, b: usize) -> usize
 fn append(buffer: &mut [u8], size: usize, block: &[u8], got: usize) -> usize
     requires size_in_bounds { size ≤ length buffer.old }
     requires got_in_bounds { got ≤ length block.now }
-    ensures { Appends buffer.old size block.now got result buffer.new }
+    ensures appends { Appends buffer.old size block.now got result buffer.new }
+    ensures all { result < length buffer.old → result ≡ size + got }
 {
     let n = least(got, buffer.len() - size);
     stores::put_bytes(buffer, size, &block[..n]);
@@ -33,35 +35,38 @@ fn append(buffer: &mut [u8], size: usize, block: &[u8], got: usize) -> usize
 }
 
 // One read into the block, tried again where a signal interrupts it.
-fn read_block(block: &mut [u8]) -> Input
-    ensures { Within result block.new × (length block.new ≡ length block.old) }
+fn read_block<R: Read>(reader: &mut R, block: &mut [u8]) -> Input
+    ensures within { Within result block.new × (length block.new ≡ length block.old) }
+    ensures takes { Takes (R.remaining reader.old) (R.remaining reader.new) result block.new }
 {
     let mut tries: u32 = 0;
     while tries < MOST_TRIES {
-        let answer = libc::read(STANDARD_INPUT, block);
-        if 0 <= answer {
-            let got = io::count(answer, block);
-            return Input::Read(got);
-        }
-        if os::errno() != libc::EINTR {
-            return Input::Failed;
+        match reader.read(block) {
+            Ok(got) => return Input::Read(got),
+            Err(e) => {
+                if e.kind() != ErrorKind::Interrupted {
+                    return Input::Failed;
+                }
+            }
         }
         tries = tries + 1;
     }
     Input::Failed
 }
 
-// Reads standard input, block by block, into the buffer until it ends or the buffer is full, and answers how many bytes there are.
+// Reads an input, block by block, into the buffer until it ends or the buffer is full, and answers how many bytes there are.
 // Fewer bytes than the block holds are not the end; none are. An empty block can take none, so no read can succeed with it.
-pub fn gather(block: &mut [u8], buffer: &mut [u8]) -> Input
-    ensures { Gathers block.old buffer.old result block.new buffer.new }
+#[tactic(auto, using(crate::proofs::KnownLaws::gathers_none))]
+pub fn gather<R: Read>(reader: &mut R, block: &mut [u8], buffer: &mut [u8]) -> Input
+    ensures gathers { Gathers block.old buffer.old result block.new buffer.new }
+    ensures holds { Holds (R.remaining reader.old) result buffer.new }
 {
     if block.len() == 0 {
         return Input::Failed;
     }
     let mut size: usize = 0;
     while size < buffer.len() {
-        let input = read_block(block);
+        let input = read_block(reader, block);
         let Input::Read(got) = input else {
             return Input::Failed;
         };

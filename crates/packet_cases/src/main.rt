@@ -5,75 +5,79 @@
 #![tactic(auto)]
 
 use case_input::{case_at, case_end};
-use libc::{STDIN_FILENO, STDOUT_FILENO};
 use packet::{PacketPoints, PacketRecord, PacketStep};
+use std::io;
+use std::io::Read;
 
-fn field(n: u64) {
-    io::write_all(STDOUT_FILENO, b" ");
-    io::print_decimal(STDOUT_FILENO, n);
+// The most bytes of input that are read.
+const MOST_INPUT: u64 = 65536;
+
+fn field(rt: &impl Print, n: u64) -> io::Result<()> {
+    print!(rt; " {n}")
 }
 
-fn print_step(step: PacketStep) {
+fn print_step(rt: &impl Print, step: PacketStep) -> io::Result<()> {
     let next = step.next;
-    field(step.refusal as u64);
-    field(step.tag as u64);
-    field(step.start as u64);
-    field(step.length as u64);
-    field(next.at as u64);
+    field(rt, step.refusal as u64)?;
+    field(rt, step.tag as u64)?;
+    field(rt, step.start as u64)?;
+    field(rt, step.length as u64)?;
+    field(rt, next.at as u64)
 }
 
-fn print_record(shown: PacketRecord) {
-    io::write_all(STDOUT_FILENO, b" record");
-    field(shown.refusal as u64);
-    field(shown.tag as u64);
-    field(shown.start as u64);
-    field(shown.length as u64);
+fn print_record(rt: &impl Print, shown: PacketRecord) -> io::Result<()> {
+    rt.print(" record")?;
+    field(rt, shown.refusal as u64)?;
+    field(rt, shown.tag as u64)?;
+    field(rt, shown.start as u64)?;
+    field(rt, shown.length as u64)
 }
 
-fn print_points(found: PacketPoints) {
-    io::write_all(STDOUT_FILENO, b" points");
-    field(found.refusal as u64);
-    field(found.start as u64);
-    field(found.count as u64);
+fn print_points(rt: &impl Print, found: PacketPoints) -> io::Result<()> {
+    rt.print(" points")?;
+    field(rt, found.refusal as u64)?;
+    field(rt, found.start as u64)?;
+    field(rt, found.count as u64)
 }
 
-fn read_kind(kind: u32, s: &[u8]) {
+fn read_kind(rt: &impl Print, kind: u32, s: &[u8]) -> io::Result<()> {
     let header = packet_header::header(kind, s);
     let first = packet_reader::first_step(kind, s);
-    io::write_all(STDOUT_FILENO, b"kind");
-    field(kind as u64);
-    io::write_all(STDOUT_FILENO, b" header");
-    field(header.refusal as u64);
-    io::write_all(STDOUT_FILENO, b" first");
-    print_step(first);
-    io::write_all(STDOUT_FILENO, b" next");
-    print_step(packet_fields::step(kind, s, first.next));
-    print_record(packet_fields::record(kind, s, 1));
-    io::write_all(STDOUT_FILENO, b"\n");
+    rt.print("kind")?;
+    field(rt, kind as u64)?;
+    rt.print(" header")?;
+    field(rt, header.refusal as u64)?;
+    rt.print(" first")?;
+    print_step(rt, first)?;
+    rt.print(" next")?;
+    print_step(rt, packet_fields::step(kind, s, first.next))?;
+    print_record(rt, packet_fields::record(kind, s, 1))?;
+    rt.print("\n")
 }
 
-fn read_one(s: &[u8]) {
-    io::write_all(STDOUT_FILENO, b"slice");
-    field(s.len() as u64);
-    print_points(packet_points::points(s));
-    io::write_all(STDOUT_FILENO, b"\n");
-    read_kind(16, s);
-    read_kind(17, s);
+fn read_one(rt: &impl Print, s: &[u8]) -> io::Result<()> {
+    rt.print("slice")?;
+    field(rt, s.len() as u64)?;
+    print_points(rt, packet_points::points(s))?;
+    rt.print("\n")?;
+    read_kind(rt, 16, s)?;
+    read_kind(rt, 17, s)
 }
 
-fn read_all(input: &[u8]) {
+fn read_all(rt: &impl Print, input: &[u8]) -> io::Result<()> {
     let mut at: usize = 0;
     let mut end = case_end(input, at);
     while at < end {
-        read_one(case_at(input, at));
+        read_one(rt, case_at(input, at))?;
         at = end;
         end = case_end(input, at);
     }
+    Ok(())
 }
 
-fn main() {
-    let mut input = io::large_buffer();
-    let n = io::read_full(STDIN_FILENO, &mut input);
-    read_all(&input[..n]);
-    read_kind(18, case_at(&input[..n], 0));
+fn main(rt: HostRuntime) -> io::Result<()> {
+    let mut input = Vec::new(rt.alloc());
+    rt.reader().take(MOST_INPUT).read_to_end(&mut input)?;
+    read_all(&rt, &input)?;
+    read_kind(&rt, 18, case_at(&input, 0))
 }

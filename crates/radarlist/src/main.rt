@@ -3,7 +3,14 @@
 
 use capture::Dialect;
 
-fn main() {
+fn main(rt: HostRuntime) {
     let mut block = [0u8; 4096];
-    listing_io::list_input(b"radarlist", &mut block, Dialect::Sirad);
+    listing_io::list_input(
+        b"radarlist",
+        &mut rt.stdin(),
+        &mut block,
+        Dialect::Sirad,
+        &mut rt.stdout(),
+        &mut rt.stderr(),
+    );
 }

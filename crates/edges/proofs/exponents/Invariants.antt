@@ -1,8 +1,0 @@
-use Prim.Native.Nat.{◌≤◌, ◌-◌}
-use Rattle.edges.proofs.exponents.Given as goal
-
-abbrev pub invariant-loop-e : goal.invariant-loop-e
-invariant-loop-e l = l.e ≤ 256
-
-abbrev pub decreases-loop-e : goal.decreases-loop-e
-decreases-loop-e l = 256 - l.e

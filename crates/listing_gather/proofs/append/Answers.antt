@@ -1,0 +1,13 @@
+-- `listing_gather::append` meets its contract: as many bytes as were got and as there is room for.
+use Rattle.std.proofs.Common.{◌+◌, ◌≤◌, length, arith}
+use Rattle.listing.proofs.GatherLaws.{appends}
+use Rattle.listing.proofs.PutLaws.{puts_taken}
+use Rattle.listing_gather.proofs.append.Goals as goal
+
+pub returns-clause-appends : goal.returns-clause-appends
+returns-clause-appends c =
+    let a = c.args in let n = c.least-n.result in let e = c.least-n.ensures.least in
+    let fits : n ≤ length a.block.now = omega arith in
+    let room : a.size + n ≤ length a.buffer.now = omega arith in
+    let puts = puts_taken a.block.now a.buffer.now _ a.size n c.put_bytes.ensures fits room in
+    appends puts fits e.0 e.1 c.requires.size_in_bounds e.2

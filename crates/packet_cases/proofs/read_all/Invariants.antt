@@ -1,0 +1,9 @@
+-- A case ends within the input.
+use Rattle.std.proofs.Common.{◌≤◌, ◌-◌, length}
+use Rattle.packet_cases.proofs.read_all.Given as goal
+
+abbrev pub invariant-loop-at : goal.invariant-loop-at
+invariant-loop-at g l = l.end ≤ length l.input
+
+abbrev pub decreases-loop-at : goal.decreases-loop-at
+decreases-loop-at g l = length l.input - l.at
