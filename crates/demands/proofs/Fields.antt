@@ -23,7 +23,8 @@ use Rattle.packet.specs.declared.PacketPoint.{PacketPoint}
 use Rattle.packet.specs.Walk.{objects_of, records_of, record_at, starts_among, IsFirst}
 use Rattle.packet.specs.Fields.{is_packet, no_header, header_of, no_record, record_read, record_of, no_step, step_read, step_of}
 use Rattle.packet.specs.Fields.{no_points, points_found, point_record, points_of, no_point, point_from, point_at, point_found, point_of}
-use Rattle.packet.specs.Refusals.{PacketOf, RecordStarts, HasPoints, FirstRefused, at_x, at_y, at-z, PointRefused}
+use Rattle.packet.specs.Refusals.{PacketOf, RecordStarts, HasPoints}
+use Rattle.demands.specs.Points.{FirstRefused, at_x, at_y, at_z, PointRefused}
 use Rattle.packet.proofs.Opened.{packet_exactly}
 use Rattle.packet.proofs.Theorems.{found_first, missing_none, starts_exactly}
 use Rattle.demands.specs.Words.{Said, none, ◌when◌else◌, ◌unless◌else◌, Refuses}

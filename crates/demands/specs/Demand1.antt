@@ -22,7 +22,8 @@ use Rattle.sirad_fields.specs.declared.StatusFrame.{StatusFrame}
 use Rattle.sirad_fields.specs.declared.ErrorFrame.{ErrorFrame}
 use Rattle.packet.specs.Walk.{objects_of, records_of}
 use Rattle.packet.specs.Fields.{no_header, header_of, no_record, record_of, no_step, step_of, no_points, points_of, no_point, point_of}
-use Rattle.packet.specs.Refusals.{PacketOf, RecordStarts, HasPoints, PointRefused}
+use Rattle.packet.specs.Refusals.{PacketOf, RecordStarts, HasPoints}
+use Rattle.demands.specs.Points.{PointRefused}
 use Rattle.packet.specs.declared.PacketHeader.{PacketHeader}
 use Rattle.packet.specs.declared.PacketRecord.{PacketRecord}
 use Rattle.packet.specs.declared.PacketStep.{PacketStep}
