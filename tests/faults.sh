@@ -3,7 +3,8 @@
 set -eu
 cd "$(dirname "$0")/.."
 for program in radarlist packetlist; do
-  [ -x "target/bin/$program" ] || { echo "faults: target/bin/$program is not there: rt check $program"; exit 1; }
+  built=crates/$program/out/$program
+  [ -x "$built" ] || { echo "faults: $built is not there: rt ci, or rt run in crates/$program"; exit 1; }
 done
 work=$(mktemp -d) && trap 'rm -rf "$work"' EXIT
 cc -std=c11 -Wall -Wextra -Werror -shared -fPIC -o "$work/faults.so" tests/faults.c
@@ -20,7 +21,7 @@ expect() {
 # faulty READS WRITES PROGRAM CAPTURE: a run with these calls (see faults.c).
 faulty() {
   : >"$work/out"
-  READ=$1 WRITE=$2 LD_PRELOAD=$work/faults.so "target/bin/$3" <"$4" >>"$work/out" 2>"$work/err"
+  READ=$1 WRITE=$2 LD_PRELOAD=$work/faults.so "crates/$3/out/$3" <"$4" >>"$work/out" 2>"$work/err"
 }
 
 unread="standard input cannot be read"
@@ -28,22 +29,23 @@ unwritten="standard output cannot be written"
 
 for pair in radarlist:sirad-mix packetlist:mmwave-points; do
   program=${pair%:*}
+  built=crates/$program/out/$program
   capture=captures/${pair#*:}.bin
   listing=captures/${pair#*:}.txt
   none=$work/none
   head -c 10 "$listing" >"$work/ten"
 
-  "target/bin/$program" </tmp >"$work/out" 2>"$work/err"
+  "$built" </tmp >"$work/out" 2>"$work/err"
   expect "a directory as input" "$program" "$none" "$unread"
-  "target/bin/$program" <&- >"$work/out" 2>"$work/err"
+  "$built" <&- >"$work/out" 2>"$work/err"
   expect "standard input closed" "$program" "$none" "$unread"
   : >"$work/out"
-  "target/bin/$program" <"$capture" >/dev/full 2>"$work/err"
+  "$built" <"$capture" >/dev/full 2>"$work/err"
   expect "a full device as output" "$program" "$none" "$unwritten"
-  "target/bin/$program" <"$capture" >&- 2>"$work/err"
+  "$built" <"$capture" >&- 2>"$work/err"
   expect "standard output closed" "$program" "$none" "$unwritten"
   exec 3> >(exec true) && wait $!
-  (trap '' PIPE && "target/bin/$program" <"$capture" >&3 2>"$work/err")
+  (trap '' PIPE && "$built" <"$capture" >&3 2>"$work/err")
   expect "a pipe that nobody reads" "$program" "$none" "$unwritten"
 
   faulty "" "" "$program" "$capture"

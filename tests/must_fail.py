@@ -1,122 +1,139 @@
-"""Each wrong answer of the must-fail edits is refused by itself, as the logs of rt ci or rt must-fail under target/must-fail say.
+"""Each must-fail edit is refused at a fact of a function that it changes, as the lines of rt ci say: of the log that RT_CI_LOG names,
+else of rt must-fail, which is run here.
 
-rt counts an edit as refused if anything in it is. Here each function that an answer changes is refused at a fact of its own proof; a
-changed constant is seen so by a function that names it. A function is proved against the promises of those that it calls, so where none
-of the changed functions calls another, each is refused as if it were changed alone; `it calls` is what the log says of a function that is
-not proved because of another, and that does not count here. The function that an answer is named after is not proved either. The proof
-fits the changed code: no name in it is missing there. Where a function hands on another slice than its own, that slice brings a need of
-its own, and the proof's last step can't put the lemmas together; then what the function returns has to be refused as well. Then each log
-is made wrong for each answer, and that has to be seen.
+rt is content if anything fails with an edit. Its line has the first thing that did: a goal that is not proved, by its place in the changed
+source, or an answer in a proof file that does not prove its goal. That has to be in a function that the edit changes; a changed constant
+is seen so by a function that names it. The function that the edit is named after is that function, or reaches it by calls in its crate, so
+it is not proved either. rt tells apart where a proof file only names what the edit took away, and where the prover came to a limit of its
+own: neither says anything of a promise, and neither counts here. Then each line is made wrong, and that has to be seen.
 """
+import os
+import pathlib
 import re
+import subprocess
 import sys
 
-from edits import ROOT, changes, edits, labels
+from edits import ROOT, changes, edits, function_of
 
-# What an error of a proof says: a name that the changed code does not have; that it rests on a lemma that was refused; that the last step
-# can't put the lemmas together; else that a lemma is refused, at a fact. What a function returns is refused at `returns`, `returns-2`, ..
-MISSING = re.compile(r"has no field|can be named from here")
-RESTS = re.compile(r"was not admitted")
-LAST_STEP = re.compile(r"^`[^`]*-spec`")
-RETURNS = re.compile(r"^`[^`]*returns(-\d+)?`")
+REFUSED = "refused, as it must be: "
+LINE = re.compile(r"^rt: must-fail (\w+)/(\S+)\.edit: (.*)$", re.M)
+# The first message of a refusal: an answer in the proof of one function, by the name of its goal (+FUNCTION, if it calls itself); a goal
+# at a line of the source.
+ANSWER = re.compile(r"(?:\./)?proofs/\+?(\w+)/\w+\.antt:\d+:\d+: error: `(.*)")
+GOAL = re.compile(r"note: (src/\S+\.rt):(\d+):\d+: it is not proved that ")
+# What an answer says that names what the changed code does not have, or that rests on another one.
+MISSING = re.compile(r"has no field|is not in scope|has no `|can be named from here|was not admitted")
 
 
 def items(source):
     """The functions and constants of a source: name, whether it is a function, and where its text starts and ends."""
-    for found in re.finditer(r'^( *)(?:pub )?(?:extern "C" )?fn (\w+).*?^\1\}$|^(?:pub )?const (\w+).*?;$', source, re.M | re.S):
+    for found in re.finditer(r'^( *)(?:pub )?(?:extern "C" )?fn (\w+).*?^\1\}$|^ *(?:pub )?const (\w+).*?;$', source, re.M | re.S):
         yield found[2] or found[3], found[2] is not None, found.start(), found.end()
 
 
-def changed(crate, file, old):
-    """The function that a change is in; of a constant, all that name it or a constant that names it."""
-    source = (crate / file).read_text()
-    at = source.index(old)
-    [(name, is_function)] = [(n, f) for n, f, start, end in items(source) if start <= at < end]
-    if is_function:
-        return {name}
-
-    def naming(constants, functions):
-        texts = [(n, source[start:end]) for n, f, start, end in items(source) if f == functions]
-        return {n for n, text in texts if any(re.search(rf"\b{c}\b", text) for c in constants)}
-
-    constants = {name}
-    while not naming(constants, False) <= constants:
-        constants |= naming(constants, False)
-    return naming(constants, True)
+def item_at(source, place):
+    return next(((name, is_function) for name, is_function, start, end in items(source) if start <= place < end), (None, False))
 
 
-def verdict_of(function):
-    return re.compile(rf"^(fn (?:\w+::)+{function}: )(.*)$", re.M)
+def naming(source, names, functions):
+    """The functions, or the constants, that name one of these."""
+    texts = [(n, source[start:end]) for n, f, start, end in items(source) if f == functions]
+    return {n for n, text in texts if any(re.search(rf"\b{name}\b", text) for name in names)}
 
 
-def error_in(function):
-    return re.compile(rf"(/proofs/(?:{function}|[^/]*\+{function}(?:\+[^/]*)?)/[^/:]*:\d+:\d+: error: )(.*)$", re.M)
+class Edited:
+    """An edit of a crate: the sources with its changes, and the functions that these are in."""
+
+    def __init__(self, crate, edit):
+        self.sources = {str(p.relative_to(crate)): p.read_text() for p in sorted((crate / "src").rglob("*.rt"))}
+        self.label, self.named, self.changed = f"{crate.name}/{edit.stem}", function_of(edit), set()
+        for file, old, new in changes(edit):
+            source = self.sources[file]
+            place = source.index(old)
+            name, is_function = item_at(source, place)
+            self.changed |= {name} if is_function else self.users_of(name)
+            self.sources[file] = source[:place] + new + source[place + len(old):]
+
+    def users_of(self, constant):
+        """The functions that name a constant, or a constant that names it."""
+        source, constants = "\n".join(self.sources.values()), {constant}
+        while not naming(source, constants, False) <= constants:
+            constants |= naming(source, constants, False)
+        return naming(source, constants, True)
+
+    def reached(self):
+        """The functions that the one that the edit is named after reaches by calls."""
+        source = "\n".join(self.sources.values())
+        calls = {n: set(re.findall(r"\b(\w+)\(", source[start:end])) for n, f, start, end in items(source) if f}
+        seen, left = set(), {self.named}
+        while left:
+            seen |= left
+            left = set().union(*(calls.get(n, set()) for n in left)) - seen
+        return seen & set(calls)
+
+    def place(self, said):
+        """The function in which a refusal's first message lies, or None."""
+        if answer := ANSWER.match(said):
+            return None if MISSING.search(answer[2]) else answer[1]
+        if (goal := GOAL.match(said)) and goal[1] in self.sources:
+            lines = self.sources[goal[1]].splitlines(True)
+            return item_at(self.sources[goal[1]], len("".join(lines[:int(goal[2]) - 1])) + 1)[0]
+        return None
+
+    def fault(self, told):
+        """What is wrong with this edit by what rt told of it, or None."""
+        if len(told) != 1:
+            return f"{len(told)} lines tell of it"
+        if not told[0].startswith(REFUSED):
+            return told[0]
+        said = told[0].removeprefix(REFUSED)
+        if self.place(said) not in self.changed:
+            return f"it changes {' '.join(sorted(map(str, self.changed)))}, and is refused elsewhere: {said}"
+        if not self.changed & self.reached():
+            return f"{self.named} does not reach {' '.join(sorted(self.changed))}"
+        return None
 
 
-def refused(log, function):
-    """Whether the prover refuses this function by itself, at a fact of its proof, which fits the code but for its last step."""
-    verdict = verdict_of(function).search(log)
-    if not verdict or not verdict[2].startswith("not proved") or "it calls" in verdict[2]:
-        return False
-    errors = [error for _, error in error_in(function).findall(log) if not RESTS.search(error)]
-    facts = [error for error in errors if not LAST_STEP.search(error)]
-    if len(facts) < len(errors):
-        facts = [error for error in facts if RETURNS.search(error)]
-    return bool(facts) and not any(MISSING.search(error) for error in errors)
+def made_wrong(told, function):
+    """What rt would have told of an edit, refused in this function, if it were not refused as it should be."""
+    said = told[0].removeprefix(REFUSED)
+    yield []
+    yield told * 2
+    yield ["BAD EDIT: an 'old:' text is in src/lib.rt 0 times, and not once"]
+    yield ["NOT REFUSED: the crate is still proved with this edit"]
+    yield [f"refused, as it must be (only by a limit of the prover): {said}"]
+    yield [f"refused, as it must be (only because a proof file names what the edit took away): {said}"]
+    yield [f"{REFUSED}./proofs/of_none/Answers.antt:1:1: error: `returns`: the two types differ"]
+    yield [f"{REFUSED}./proofs/Laws.antt:1:1: error: `law`: the two types differ"]
+    yield [f"{REFUSED}note: src/lib.rt:1:1: it is not proved that what the function ensures holds when it returns (`returns`)"]
+    yield [f"{REFUSED}./proofs/{function}/Answers.antt:1:1: error: `returns`: record `After` has no field `if1`"]
 
 
-def faults(answers, log):
-    """What is wrong with an edit's answers, each with the functions that each of its changes is in, by this log."""
-    seen = set()
-    for label, changed_in in answers.items():
-        named = verdict_of(label.split("-")[0]).search(log)
-        if not named or named[2] == "proved":
-            yield f"{label}: the function that it is named after is proved"
-        for functions in changed_in:
-            if not any(refused(log, f) for f in functions):
-                yield f"{label} is not refused by itself at {' or '.join(sorted(functions))}"
-        mine = set().union(*changed_in)
-        if mine & seen:
-            yield f"{label} changes {' '.join(sorted(mine & seen))} again"
-        seen |= mine
-
-
-WRONG_LOGS = ((verdict_of, "proved"), (verdict_of, "not proved; it calls `f`, which is not proved"),
-              (error_in, "`f-spec`: `returns` was not admitted"), (error_in, "`returns`: record `After` has no field `if1`"),
-              (error_in, "`f-spec`: the two types differ"))
-
-
-def made_wrong(answers, log):
-    """The log with one answer's functions proved, not proved because of another, refused at no fact, and with a proof that does not fit."""
-    for changed_in in answers.values():
-        for pattern, said in WRONG_LOGS:
-            text = log
-            for function in set().union(*changed_in):
-                text = pattern(function).sub(lambda found: found[1] + said, text)
-            yield text
+def log():
+    if name := os.environ.get("RT_CI_LOG"):
+        return pathlib.Path(name).read_text()
+    return subprocess.run(["rt", "must-fail"], cwd=ROOT, stdout=subprocess.PIPE, text=True).stdout
 
 
 def main():
-    tried, answered, unseen, wrong = 0, 0, 0, []
+    told = {}
+    for crate, label, what in LINE.findall(log()):
+        told.setdefault((crate, label), []).append(what)
+    tried, made, unseen, wrong = 0, 0, 0, []
     for crate in sorted((ROOT / "crates").iterdir()):
-        for edit in edits(crate):
-            where = f"{crate.name}/{edit.stem}"
-            path = ROOT / "target" / "must-fail" / crate.name / edit.stem / ".log"
-            if not path.is_file():
-                wrong.append(f"{where} was not tried: rt must-fail {crate.name}")
+        for path in edits(crate):
+            edit, of = Edited(crate, path), told.pop((crate.name, path.stem), [])
+            tried += 1
+            if fault := edit.fault(of):
+                wrong.append(f"{edit.label}: {fault}")
                 continue
-            log = path.read_text()
-            answers = {label: [changed(crate, file, old) for file, old in pairs] for label, pairs in changes(edit).items()}
-            if list(answers) != labels(edit):
-                wrong.append(f"{where}: its name is not that of its answers, {', '.join(answers)}")
-            wrong += [f"{where}: {fault}" for fault in faults(answers, log)]
-            unseen += sum(not any(faults(answers, text)) for text in made_wrong(answers, log))
-            tried, answered = tried + 1, answered + len(answers)
+            for lines in made_wrong(of, edit.place(of[0].removeprefix(REFUSED))):
+                made, unseen = made + 1, unseen + (edit.fault(lines) is None)
+    wrong += [f"{crate}/{label}: there is no such edit" for crate, label in told]
     for row in wrong:
         print("must_fail:", row)
-    print(f"must_fail: {answered} wrong answers in {tried} edits, {len(wrong)} not refused as they should be; "
-          f"{len(WRONG_LOGS) * answered} logs made wrong, {unseen} not seen")
-    sys.exit(bool(wrong or unseen or not answered))
+    print(f"must_fail: {tried} wrong answers, {len(wrong)} not refused as they should be; {made} lines made wrong, {unseen} not seen")
+    sys.exit(bool(wrong or unseen or not tried))
 
 
 main()

@@ -1,12 +1,12 @@
 """Looks up every name of docs/TRACE.md in the tree.
 
 In backquotes: `crate::function` is a function of src/, `crate.name` a definition or theorem of specs/ or proofs/,
-`crate/must-fail/LABEL` a wrong answer of an edit, and anything else with a slash a file. A name that is not found is printed.
+`crate/must-fail/LABEL` an edit, which tries one wrong answer, and anything else with a slash a file. A name that is not found is printed.
 """
 import re
 import sys
 
-from edits import ROOT, edits, labels
+from edits import ROOT, edits
 
 TRACE = ROOT / "docs" / "TRACE.md"
 
@@ -22,7 +22,7 @@ def exists(name):
         return re.search(r"\bfn %s\b" % re.escape(function), text_of(crate, ["src"], "*.rt")) is not None
     if "/must-fail/" in name:
         crate, label = name.split("/must-fail/")
-        return any(label in labels(edit) for edit in edits(ROOT / "crates" / crate))
+        return label in [edit.stem for edit in edits(ROOT / "crates" / crate)]
     if "/" in name:
         return (ROOT / name).exists()
     if "." in name:
