@@ -1,9 +1,8 @@
 -- Demand 1: "No input stops or harms it. Each public entry tests what it is handed and answers bad input with a number from the list in the
 -- rules (the choice between two lines: with an empty part). A refusal changes no lent buffer."
 -- That no input stops or harms an entry is what the check of each function says: it is safe and returns on every input, for no entry asks
--- its caller for anything (proofs/Entries.antt). Below: which number is given when, in the order of paper 01, "Refusal numbers", with the
--- entry whose promise is the definition that it is said of. What writers refuse stands in Writing.antt, what the requests add in
--- Requests.antt.
+-- its caller for anything. Below: which number is given when, in the order of paper 01, "Refusal numbers", with the
+-- entry whose promise is the definition that it is said of. What writers refuse stands in Writing.antt.
 use Rattle.std.specs.Prelude.{Bool, ◌≡◌, List, ℕ, ◌+◌, ◌*◌, ◌^◌, ◌<◌, ◌≤◌, length}
 use Rattle.digits.specs.Bytes.{is_character}
 use Rattle.form.specs.declared.JudgementNumbers.{JudgementNumbers}

@@ -3,8 +3,8 @@
 -- Each writer promises `Writes` with the refusal of its values and its bytes: `sirad_write_data::write_data` by `data_refusal` and
 -- `data_bytes`, `sirad_targets::write_targets` by `targets_refusal` and `targets_bytes`, `sirad_write::write_status` and `write_error` by
 -- `status_refusal`, `status_bytes`, `error_refusal` and `error_bytes`, `demorad_write::write_command` by `legality` and `command_bytes`,
--- and
--- `listing_text::write_listing` by 0 and `listing`. `out` is the lent buffer at entry, `after` at exit, `r` the answer.
+-- and `listing_text::write_listing` by 0 and `listing`. `out` is the lent buffer at entry, `after` at exit, `r` the answer.
+-- Stated, and not proved here yet.
 use Rattle.std.specs.Prelude.{Bool, true, false, cond, ◌&&◌, ◌||◌, ◌≡◌, List, [], ◌∷◌, ◌++◌, ℕ, ◌+◌, ◌-◌, ◌%◌, ◌^◌, ◌<◌, ◌≤◌, eqb}
 use Rattle.std.specs.Prelude.{leb, length, take, drop, get_or, replicate}
 use Rattle.digits.specs.Bytes.{Below, Bytes, within, is_character}

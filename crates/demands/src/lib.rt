@@ -1,2 +1,3 @@
-// The front door: every sentence of the order and of the requests that have landed, each as a named proposition, and their proof. No code.
+// The front door, begun: which number each entry answers to bad input (demand 1) as named propositions with their proof, and what the
+// writers promise as propositions alone. No code.
 #![tactic(auto)]

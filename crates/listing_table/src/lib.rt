@@ -70,7 +70,7 @@ fn letter_of(kind: u32) -> u8
 // Puts the line of the row that starts at an index of the table.
 fn put_row(out: &mut [u8], at: usize, table: &[u32], index: usize) -> usize
     requires index_in_bounds { index + 3 ≤ length table.now }
-    requires table_in_bounds { at + length (row_line (first_of (drop index table.now))) ≤ length out.old }
+    requires line_fits { at + length (row_line (first_of (drop index table.now))) ≤ length out.old }
     ensures { Puts (row_line (first_of (drop index table.now))) out.old at result out.new }
 {
     let letter = letter_of(table[index + 2]);
@@ -80,7 +80,7 @@ fn put_row(out: &mut [u8], at: usize, table: &[u32], index: usize) -> usize
 // Puts the lines of the first rows of the table.
 fn put_rows(out: &mut [u8], from: usize, table: &[u32], rows: usize) -> usize
     requires rows_in_bounds { 3 * rows ≤ length table.now }
-    requires table_in_bounds { from + length (table_lines rows table.now) ≤ length out.old }
+    requires lines_fit { from + length (table_lines rows table.now) ≤ length out.old }
     ensures { Puts (table_lines rows table.now) out.old from result out.new }
 {
     let mut at = from;
@@ -112,7 +112,7 @@ fn put_header(out: &mut [u8]) -> usize
 // Puts the first line, the lines of the table's rows, and the last line.
 fn put_all(out: &mut [u8], table: &[u32], rows: usize, size: u32, skipped: u32) -> usize
     requires rows_in_bounds { 3 * rows ≤ length table.now }
-    requires skipped_in_bounds { length (table_text rows table.now size skipped) ≤ length out.old }
+    requires text_fits { length (table_text rows table.now size skipped) ≤ length out.old }
     ensures { Puts (table_text rows table.now size skipped) out.old 0 result out.new }
 {
     let first = put_header(out);

@@ -14,7 +14,7 @@ pub put_rows-last-requires : goal.put_rows-last-requires
 put_rows-last-requires c =
     let a = c.args in let e = c.put_header-first.ensures in
     let n = length_table_text a.rows a.table.now a.size a.skipped in
-    record { rows_in_bounds = omega arith; table_in_bounds = omega (arith, n, length_header, e.ends, puts_length e) }
+    record { rows_in_bounds = omega arith; lines_fit = omega (arith, n, length_header, e.ends, puts_length e) }
 
 pub put_end-requires : goal.put_end-requires
 put_end-requires c =

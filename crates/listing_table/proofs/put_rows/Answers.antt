@@ -12,7 +12,7 @@ pub put_row-at-requires : goal.put_row-at-requires
 put_row-at-requires c =
     let l = c.loop-i in let a = c.args in
     let f = reached_fits a.table.now a.from a.rows l.i l.at l.invariant.reached (omega arith) in
-    record { index_in_bounds = omega arith; table_in_bounds = omega (arith, l.invariant.same_length) }
+    record { index_in_bounds = omega arith; line_fits = omega (arith, l.invariant.same_length) }
 
 pub loop-i-preserved : goal.loop-i-preserved
 loop-i-preserved c =
