@@ -1,6 +1,10 @@
 -- Stores into a lent buffer, and what every writer promises of it.
 use Rattle.std.specs.Prelude.{cond, ◌≡◌, List, ℕ, ◌+◌, eqb, leb, length}
+use Rattle.std.specs.declared.result.Result.{Result}
+use Rattle.std.specs.declared.result.Result.TheVariants.{Ok, Err}
 use Rattle.std.proofs.lemmas.List.Edits.{sets}
+use Rattle.refusals.specs.declared.Refusal.{Refusal}
+use Rattle.refusals.specs.Numbers.{number}
 use Rattle.digits.specs.LittleEndian.{to_little}
 use Rattle.digits.specs.declared.Written.{Written}
 
@@ -20,6 +24,11 @@ word_stored out at v = stored_within out at (to_little 4 v)
 -- (paper 01, "Refusal numbers")
 unfoldable pub writer_refusal : ℕ → ℕ → ℕ → ℕ
 writer_refusal refusal size room = cond (eqb refusal 0) (cond (leb size room) 0 51) refusal
+
+-- a writer's answer in numbers: the bytes produced, or the refusal's number (paper 01, "Refusal numbers")
+abbrev pub written_of : Result ℕ Refusal → Written
+written_of (Ok size) = record { refusal = 0; size = size }
+written_of (Err r) = record { refusal = number r; size = 0 }
 
 -- the answer of a writer whose values are refused with this number (0: not refused), and 51 where the output is too short
 -- (paper 01, "Refusal numbers")

@@ -5,6 +5,9 @@
 ghost use Rattle.std.specs.Prelude.{◌≡◌, ◌&&◌, ◌||◌, ◌%◌};
 ghost use Rattle.digits.specs.Bytes.{within, is_hex, is_character};
 ghost use Rattle.digits.specs.Hex.{digit, glyph};
+ghost use Rattle.digits.specs.Stores.{written_of};
+
+use refusals::Refusal;
 
 // The refusal of every writer whose output is too short (paper 01, "Refusal numbers").
 pub const OUTPUT_TOO_SHORT: u32 = 51;
@@ -14,12 +17,26 @@ const FIRST_CHARACTER: u8 = 34;
 
 const LAST_CHARACTER: u8 = 254;
 
-// What a writer answers: the refusal number (0: none) and the bytes produced.
+// What a writer answers to a host in C: the refusal number (0: none) and the bytes produced.
 #[repr(C)]
 #[derive(Clone, Copy)]
 pub struct Written {
     pub refusal: u32,
     pub size: usize,
+}
+
+impl From<Result<usize, Refusal>> for Written {
+    ghost from_gives = { λ r w. w ≡ written_of r };
+
+    fn from(answer: Result<usize, Refusal>) -> Written {
+        match answer {
+            Ok(size) => Written { refusal: 0, size },
+            Err(refusal) => Written {
+                refusal: refusal.number(),
+                size: 0,
+            },
+        }
+    }
 }
 
 // -- Tests, by calls where `&&` and `||` would branch on the data

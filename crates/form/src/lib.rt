@@ -2,10 +2,10 @@
 #![tactic(auto)]
 
 ghost use Rattle.std.specs.Prelude.{◌≡◌};
-ghost use Rattle.form.specs.Numbers.{numbers_of, Judges};
+ghost use Rattle.form.specs.Numbers.{numbers_of, judgement_of, Judges};
 ghost use Rattle.form.specs.Pieces.{any, always, four, free, frees};
 
-// Paper 01, "Judging a place". Inside a grammar `Whole` carries a piece's value and the offset behind it.
+// Paper 01, "Judging a place".
 #[derive(Clone, Copy)]
 pub enum Judgement {
     // a whole frame: kind, length
@@ -14,6 +14,32 @@ pub enum Judgement {
     Bad(u32),
     // further bytes decide
     Waiting,
+}
+
+// What a piece of a grammar comes to: its value, and the offset behind it.
+#[derive(Clone, Copy)]
+pub struct Parsed {
+    pub value: u32,
+    pub end: usize,
+}
+
+// Why a piece does not stand: a reason, or its bytes are not all there and may still come.
+#[derive(Clone, Copy)]
+pub enum Unparsed {
+    Bad(u32),
+    Waiting,
+}
+
+impl From<Result<Parsed, Unparsed>> for Judgement {
+    ghost from_gives = { λ r j. j ≡ judgement_of r };
+
+    fn from(piece: Result<Parsed, Unparsed>) -> Judgement {
+        match piece {
+            Ok(frame) => Judgement::Whole(frame.value, frame.end),
+            Err(Unparsed::Bad(reason)) => Judgement::Bad(reason),
+            Err(Unparsed::Waiting) => Judgement::Waiting,
+        }
+    }
 }
 
 // The cases of a judgement as numbers; 0 is none of them, so that a refusal, whose other numbers are 0, is never taken for a whole frame.
