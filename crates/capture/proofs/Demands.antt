@@ -61,7 +61,7 @@ use Rattle.capture.specs.Edges.{edges, vital_edges, block_edges, pairs_of, once_
 use Rattle.capture.specs.Entries.{max_bytes, verdict, verdict_numbers, read_answer, read_leaves}
 use Rattle.capture.specs.Feeding.{in_call, call_reading, rest_of, feed_answer}
 use Rattle.capture.specs.Lines.{closed_rows, empty_part, chosen, part_of}
-use Rattle.capture.specs.declared.Asked.TheVariants.{Known, Unknown}
+use Rattle.std.specs.declared.option.Option.TheVariants.{Some, None}
 use Rattle.capture.specs.declared.Dialect.{Dialect}
 use Rattle.capture.specs.declared.Dialect.TheVariants.{Sirad, Packets}
 use Rattle.capture.specs.declared.Verdict.{Verdict}
@@ -244,14 +244,14 @@ end_waits d A l = (judged_exactly d A (length A) Waiting l (omega arith)).1 (rw 
 -- -- Demand 1
 
 -- the numbers of the dialects
-asked_is : (number : ℕ) → number < 3 → (d : Dialect) × (dialect_of number ≡ Known d)
+asked_is : (number : ℕ) → number < 3 → (d : Dialect) × (dialect_of number ≡ Some d)
 unfolding dialect_of
 asked_is zero h = (Sirad, refl)
 asked_is (suc zero) h = (Packets MmWave, refl)
 asked_is (suc (suc zero)) h = (Packets VitalSigns, refl)
 asked_is (suc (suc (suc n))) h = absurd (omega arith)
 
-asked_none : (number : ℕ) → 3 ≤ number → dialect_of number ≡ Unknown
+asked_none : (number : ℕ) → 3 ≤ number → dialect_of number ≡ None
 asked_none number h = sym (dialect_none number (λ e. omega arith) (λ e. omega arith) (λ e. omega arith))
 
 not_refused : (j : Judgement) → (verdict_numbers (Judged j)).refusal ≡ 0
@@ -260,13 +260,13 @@ not_refused (Bad r) = refl
 not_refused Waiting = refl
 
 verdict_refuses : (d : Dialect) (bs : List ℕ) (at : ℕ)
-    → ((verdict_numbers (verdict (Known d) bs at)).refusal ≡ 0) ↔ ((length bs ≤ max_bytes) × (at ≤ length bs))
+    → ((verdict_numbers (verdict (Some d) bs at)).refusal ≡ 0) ↔ ((length bs ≤ max_bytes) × (at ≤ length bs))
 verdict_refuses d bs at = (
   there (dec_lt max_bytes (length bs)) (dec_lt (length bs) at),
   λ h. ap (λ (v : Verdict). (verdict_numbers v).refusal) (judged_is d bs at h.0 h.1) ∙ not_refused (judge_of d (drop at bs)),
 )
   where
-    there : Dec (max_bytes < length bs) → Dec (length bs < at) → (verdict_numbers (verdict (Known d) bs at)).refusal ≡ 0
+    there : Dec (max_bytes < length bs) → Dec (length bs < at) → (verdict_numbers (verdict (Some d) bs at)).refusal ≡ 0
         → (length bs ≤ max_bytes) × (at ≤ length bs)
     there (yes l) m e = let z : ◌≡◌ {A = ℕ} 3 0 = rw (← verdict_long d bs at l) at e in absurd (omega arith)
     there (no l) (yes m) e = let z : ◌≡◌ {A = ℕ} 2 0 = rw (← verdict_beyond d bs at (omega arith) m) at e in absurd (omega arith)
@@ -286,11 +286,11 @@ judgement_refuses_only number bs at = by_number (dec_lt number 3)
         ((λ h. let z : ◌≡◌ {A = ℕ} 1 0 = rw u at h in absurd (omega arith)), (λ h. absurd (l h.0)))
 
 reading_refuses : (d : Dialect) (closed : Bool) (bs : List ℕ) (room : ℕ)
-    → ((read_answer (Known d) closed bs room).refusal ≡ 0) ↔ (length bs ≤ max_bytes)
+    → ((read_answer (Some d) closed bs room).refusal ≡ 0) ↔ (length bs ≤ max_bytes)
 unfolding read_answer
 reading_refuses d closed bs room = (there (dec_lt max_bytes (length bs)), (λ h. rw (le-ltb max_bytes (length bs) h)))
   where
-    there : Dec (max_bytes < length bs) → (read_answer (Known d) closed bs room).refusal ≡ 0 → length bs ≤ max_bytes
+    there : Dec (max_bytes < length bs) → (read_answer (Some d) closed bs room).refusal ≡ 0 → length bs ≤ max_bytes
     there (yes l) e = let z : ◌≡◌ {A = ℕ} 3 0 = rw (lt-ltb max_bytes (length bs) l) at e in absurd (omega arith)
     there (no l) e = omega arith
 
@@ -310,10 +310,10 @@ reading_refuses_only number closed bs room = by_number (dec_lt number 3)
 
 pub refusal_changes_nothing : say.RefusalChangesNothing
 unfolding read_leaves
-refusal_changes_nothing Unknown closed bs table h = refl
-refusal_changes_nothing (Known d) closed bs table h = by_length (dec_lt max_bytes (length bs))
+refusal_changes_nothing None closed bs table h = refl
+refusal_changes_nothing (Some d) closed bs table h = by_length (dec_lt max_bytes (length bs))
   where
-    by_length : Dec (max_bytes < length bs) → read_leaves (Known d) closed bs table ≡ table
+    by_length : Dec (max_bytes < length bs) → read_leaves (Some d) closed bs table ≡ table
     by_length (yes l) = rw (lt-ltb max_bytes (length bs) l)
     by_length (no l) = absurd (h ((reading_refuses d closed bs (room_in table)).1 (omega arith)))
 
@@ -339,7 +339,7 @@ two_lines d main standby m s =
 pub refused_line_is_empty : say.RefusedLineIsEmpty
 refused_line_is_empty number main standby closed room h = by_number (dec_lt number 3)
   where
-    by_length : (d : Dialect) → dialect_of number ≡ Known d → Dec (max_bytes < length main) → Dec (max_bytes < length standby)
+    by_length : (d : Dialect) → dialect_of number ≡ Some d → Dec (max_bytes < length main) → Dec (max_bytes < length standby)
         → part_of (dialect_of number) main standby ≡ empty_part
     by_length d e (yes l) m = rw e (sym (main_long d main standby l))
     by_length d e (no l) (yes m) = rw e (sym (standby_long d main standby (omega arith) m))

@@ -21,8 +21,8 @@ use Rattle.reading.proofs.Rows.{rows_stand}
 use Rattle.capture.specs.Dialects.{dialect_of, dialect_number, judge_of}
 use Rattle.capture.specs.Entries.{max_bytes, read_leaves, Reads}
 use Rattle.capture.specs.Lines.{closed_rows, first_row, row_part, empty_part, chosen, part_of, line_of, RefersTo}
-use Rattle.capture.specs.declared.Asked.{Asked}
-use Rattle.capture.specs.declared.Asked.TheVariants.{Known, Unknown}
+use Rattle.std.specs.declared.option.Option.{Option}
+use Rattle.std.specs.declared.option.Option.TheVariants.{Some, None}
 use Rattle.capture.specs.declared.Dialect.{Dialect}
 use Rattle.capture.specs.declared.Part.{Part}
 use Rattle.capture.proofs.Wires.{lawful_of, number_names}
@@ -44,7 +44,7 @@ pub first_stored : (d : Dialect) (number : ℕ) (bs : List ℕ) (r : Answer) (af
     → record { offset = get_or after 0 0; size = get_or after 1 0; kind = get_or after 2 0 } ≡ first_row (closed_rows d bs)
 unfolding read_leaves stored flat
 first_stored d number bs r after n l g =
-    let k : dialect_of number ≡ Known d = ap dialect_of n ∙ number_names d in
+    let k : dialect_of number ≡ Some d = ap dialect_of n ∙ number_names d in
     let s : after ≡ stored (0 ∷ 0 ∷ 0 ∷ []) 0 (flat (reading (judge_of d) true 1 bs).rows) = rw (k, le-ltb max_bytes (length bs) l) at
     g.leaves in
     by_rows (closed_rows d bs) (s ∙ ap (λ (ws : List Row). stored (0 ∷ 0 ∷ 0 ∷ []) 0 (flat ws)) (closed_rows_first d bs 1))
@@ -80,40 +80,40 @@ unfolding chosen
 chosen_none = refl
 
 module _ (d : Dialect) (main standby : List ℕ) where
-  pub main_long : max_bytes < length main → empty_part ≡ part_of (Known d) main standby
+  pub main_long : max_bytes < length main → empty_part ≡ part_of (Some d) main standby
   unfolding part_of
   main_long h = rw (lt-ltb max_bytes (length main) h)
 
-  pub standby_long : length main ≤ max_bytes → max_bytes < length standby → empty_part ≡ part_of (Known d) main standby
+  pub standby_long : length main ≤ max_bytes → max_bytes < length standby → empty_part ≡ part_of (Some d) main standby
   unfolding part_of
   standby_long m h = rw (le-ltb max_bytes (length main) m, lt-ltb max_bytes (length standby) h)
 
   -- within the limit the choice is between the two closed readings
   pub both_short : length main ≤ max_bytes → length standby ≤ max_bytes
-      → chosen (closed_rows d main) (closed_rows d standby) ≡ part_of (Known d) main standby
+      → chosen (closed_rows d main) (closed_rows d standby) ≡ part_of (Some d) main standby
   unfolding part_of
   both_short m s = rw (le-ltb max_bytes (length main) m, le-ltb max_bytes (length standby) s)
 
   pub main_first : (w : Row) → length main ≤ max_bytes → length standby ≤ max_bytes → w ≡ first_row (closed_rows d main) → (w.size ≡ 0 → ⊥)
-      → row_part false w ≡ part_of (Known d) main standby
+      → row_part false w ≡ part_of (Some d) main standby
   main_first w m s e h = chosen_main (closed_rows d main) (closed_rows d standby) w e h ∙ both_short m s
 
   pub standby_first : (w v : Row) → length main ≤ max_bytes → length standby ≤ max_bytes → w ≡ first_row (closed_rows d main) → w.size ≡ 0
       → v ≡ first_row (closed_rows d standby) → (v.size ≡ 0 → ⊥)
-      → row_part true v ≡ part_of (Known d) main standby
+      → row_part true v ≡ part_of (Some d) main standby
   standby_first w v m s e z f h =
       let n = no_row (judge_of d) main (closed_rows d main) w (closed_rows_stand d main) e z in
       chosen_standby (closed_rows d standby) v f h ∙ ap (λ (ms : List Row). chosen ms (closed_rows d standby)) (sym n) ∙ both_short m s
 
   pub neither_first : (w v : Row) → length main ≤ max_bytes → length standby ≤ max_bytes → w ≡ first_row (closed_rows d main) → w.size ≡ 0
       → v ≡ first_row (closed_rows d standby) → v.size ≡ 0
-      → empty_part ≡ part_of (Known d) main standby
+      → empty_part ≡ part_of (Some d) main standby
   neither_first w v m s e z f y =
       let n = no_row (judge_of d) main (closed_rows d main) w (closed_rows_stand d main) e z in
       let o = no_row (judge_of d) standby (closed_rows d standby) v (closed_rows_stand d standby) f y in
       chosen_none ∙ (λ i. chosen (sym n i) (sym o i)) ∙ both_short m s
 
-pub unknown_part : (main standby : List ℕ) → empty_part ≡ part_of Unknown main standby
+pub unknown_part : (main standby : List ℕ) → empty_part ≡ part_of None main standby
 unfolding part_of
 unknown_part main standby = refl
 
@@ -135,10 +135,10 @@ inner_cond true p q main standby h k = h
 inner_cond false p q main standby h k = k
 
 -- the chosen part lies in its line
-pub inner : (asked : Asked) (main standby : List ℕ) → Inner (part_of asked main standby) main standby
+pub inner : (asked : Option Dialect) (main standby : List ℕ) → Inner (part_of asked main standby) main standby
 unfolding part_of
-inner Unknown main standby = omega arith
-inner (Known d) main standby =
+inner None main standby = omega arith
+inner (Some d) main standby =
     let e : Inner empty_part main standby = omega arith in
     inner_cond (ltb max_bytes (length main)) empty_part _ main standby e
     (inner_cond (ltb max_bytes (length standby)) empty_part _ main standby e
@@ -147,9 +147,9 @@ inner (Known d) main standby =
 
 -- -- The same of a part that is known to be the chosen one
 
-pub part_asked : (asked asked' : Asked) (main standby : List ℕ) (r : Part) → asked ≡ asked' → r ≡ part_of asked main standby
+pub part_asked : (asked asked' : Option Dialect) (main standby : List ℕ) (r : Part) → asked ≡ asked' → r ≡ part_of asked main standby
     → r ≡ part_of asked' main standby
-part_asked asked asked' main standby r e h = h ∙ ap (λ (a : Asked). part_of a main standby) e
+part_asked asked asked' main standby r e h = h ∙ ap (λ (a : Option Dialect). part_of a main standby) e
 
 -- what is seen of the chosen line is what is seen of each, chosen
 line_seen : {A B : Type 0} (f : A → B) (p : Part) (main standby : A) → f (line_of p main standby) ≡ line_of p (f main) (f standby)
@@ -159,7 +159,7 @@ line_seen f p main standby = by_flag p.standby
     by_flag true = refl
     by_flag false = refl
 
-module _ (asked : Asked) (main standby line : Bor (List ℕ)) (p : Part) (e : p ≡ part_of asked main.now standby.now)
+module _ (asked : Option Dialect) (main standby line : Bor (List ℕ)) (p : Part) (e : p ≡ part_of asked main.now standby.now)
     (l : line ≡ line_of p main standby) where
   line_bytes : line.now ≡ line_of p main.now standby.now
   line_bytes = ap (λ x. x.now) l ∙ line_seen (λ x. x.now) p main standby

@@ -20,8 +20,8 @@ use Rattle.capture.specs.Dialects.{dialect_of, judge_of}
 use Rattle.capture.specs.Feeding.{in_call, call_reading, rest_of, feed_refusal, accepted}
 use Rattle.capture.specs.Feeding.{feed_answer, feed_keeps, feed_leaves, FeedsBy}
 use Rattle.capture.specs.Runs.{fresh, Run, start, call, refusal, moved, again}
-use Rattle.capture.specs.declared.Asked.{Asked}
-use Rattle.capture.specs.declared.Asked.TheVariants.{Known, Unknown}
+use Rattle.std.specs.declared.option.Option.{Option}
+use Rattle.std.specs.declared.option.Option.TheVariants.{Some, None}
 use Rattle.capture.specs.declared.Dialect.{Dialect}
 use Rattle.capture.specs.declared.Fed.{Fed}
 use Rattle.capture.specs.declared.Stream.{Stream}
@@ -33,17 +33,17 @@ use Rattle.capture.proofs.Wires.{lawful_of}
 
 -- the number of an answer is the refusal
 pub answer_number : (d : Dialect) (s : Stream) (carry bytes : List ℕ) (room : ℕ)
-    → (feed_answer (Known d) s carry bytes room).refusal ≡ feed_refusal d s carry bytes room
+    → (feed_answer (Some d) s carry bytes room).refusal ≡ feed_refusal d s carry bytes room
 unfolding feed_answer
 answer_number d s carry bytes room = go (ℕ_discrete (feed_refusal d s carry bytes room) 0)
   where
-    go : Dec (feed_refusal d s carry bytes room ≡ 0) → (feed_answer (Known d) s carry bytes room).refusal
+    go : Dec (feed_refusal d s carry bytes room ≡ 0) → (feed_answer (Some d) s carry bytes room).refusal
         ≡ feed_refusal d s carry bytes room
     go (yes e) = rw (eq-eqb (feed_refusal d s carry bytes room) 0 e) (sym e)
     go (no e) = rw (ne_eqb (feed_refusal d s carry bytes room) 0 e)
 
 module _ (d : Dialect) (s : Stream) (carry bytes table : List ℕ) (r : Fed) (carry' table' : List ℕ)
-    (f : FeedsBy (Known d) s carry bytes table r carry' table') where
+    (f : FeedsBy (Some d) s carry bytes table r carry' table') where
   -- an accepted call
   pub record Accepted : Type 0 where
     pub fits : Fits d s carry bytes (room_in table)
@@ -68,7 +68,7 @@ abbrev pub Unchanged : Stream → List ℕ → List ℕ → Fed → List ℕ →
 Unchanged s carry table r carry' table' = (r.stream ≡ s) × (r.rows ≡ 0) × (carry' ≡ carry) × (table' ≡ table)
 
 unchanged_known : (d : Dialect) (s : Stream) (carry bytes table : List ℕ) (r : Fed) (carry' table' : List ℕ)
-    → FeedsBy (Known d) s carry bytes table r carry' table' → (r.refusal ≡ 0 → ⊥) → Unchanged s carry table r carry' table'
+    → FeedsBy (Some d) s carry bytes table r carry' table' → (r.refusal ≡ 0 → ⊥) → Unchanged s carry table r carry' table'
 unfolding feed_answer feed_keeps feed_leaves
 unchanged_known d s carry bytes table r carry' table' f z =
     let n = ap (λ (a : Fed). a.refusal) f.answers ∙ answer_number d s carry bytes (room_in table) in
@@ -76,12 +76,12 @@ unchanged_known d s carry bytes table r carry' table' f z =
     let a = rw q at f.answers in
     (ap (λ (a : Fed). a.stream) a, ap (λ (a : Fed). a.rows) a, rw q at f.keeps, rw q at f.leaves)
 
-pub unchanged : (asked : Asked) (s : Stream) (carry bytes table : List ℕ) (r : Fed) (carry' table' : List ℕ)
+pub unchanged : (asked : Option Dialect) (s : Stream) (carry bytes table : List ℕ) (r : Fed) (carry' table' : List ℕ)
     → FeedsBy asked s carry bytes table r carry' table' → (r.refusal ≡ 0 → ⊥) → Unchanged s carry table r carry' table'
 unfolding feed_answer feed_keeps feed_leaves
-unchanged Unknown s carry bytes table r carry' table' f z =
+unchanged None s carry bytes table r carry' table' f z =
     (ap (λ (a : Fed). a.stream) f.answers, ap (λ (a : Fed). a.rows) f.answers, f.keeps, f.leaves)
-unchanged (Known d) s carry bytes table r carry' table' f z = unchanged_known d s carry bytes table r carry' table' f z
+unchanged (Some d) s carry bytes table r carry' table' f z = unchanged_known d s carry bytes table r carry' table' f z
 
 -- -- The run
 
@@ -148,7 +148,7 @@ module _ (d : Dialect) (s : Stream) (carry bs numbers : List ℕ) (g : Going d s
         let q : s.offset + ((call_reading d s carry bytes).next - s.offset) ≡ (call_reading d s carry bytes).next = omega arith in
         rw (← behind, drop-drop ((call_reading d s carry bytes).next - s.offset) s.offset (bs ++ bytes), q)
 
-    going_call : (table : List ℕ) (r : Fed) (carry' table' : List ℕ) (f : FeedsBy (Known d) s carry bytes table r carry' table')
+    going_call : (table : List ℕ) (r : Fed) (carry' table' : List ℕ) (f : FeedsBy (Some d) s carry bytes table r carry' table')
         → Accepted d s carry bytes table r carry' table' f
         → Going d r.stream carry' (bs ++ bytes) (numbers ++ take (row_width * r.rows) table')
     going_call table r carry' table' f a =
@@ -164,11 +164,11 @@ module _ (d : Dialect) (s : Stream) (carry bs numbers : List ℕ) (g : Going d s
           carried = rw (a.kept, first_stored carry (rest_of d s carry bytes) a.fits.rest) rest_is;
         })
 
-pub going : (dialect : ℕ) (d : Dialect) → dialect_of dialect ≡ Known d → {s : Stream} {carry bs numbers : List ℕ}
+pub going : (dialect : ℕ) (d : Dialect) → dialect_of dialect ≡ Some d → {s : Stream} {carry bs numbers : List ℕ}
     → Run dialect s carry bs numbers → Going d s carry bs numbers
 going dialect d e (start {carry}) = going_start d carry
 going dialect d e (call {s} {carry} {bs} {numbers} run bytes table r carry' table' f z) =
-    let f' : FeedsBy (Known d) s carry bytes table r carry' table' = rw e at f in
+    let f' : FeedsBy (Some d) s carry bytes table r carry' table' = rw e at f in
     going_call d s carry bs numbers (going dialect d e run) bytes table r carry' table' f'
     (accepted_call d s carry bytes table r carry' table' f' z)
 going dialect d e (refusal {s} {carry} {bs} {numbers} run other bytes table r carry' table' f z) =

@@ -34,8 +34,8 @@ use Rattle.capture.specs.Entries.{max_bytes, verdict, verdict_numbers, read_answ
 use Rattle.capture.specs.Feeding.{call_reading, rest_of, accepted, feed_answer, Feeds}
 use Rattle.capture.specs.Lines.{row_part, empty_part, part_of}
 use Rattle.capture.specs.Runs.{Run, AsOne}
-use Rattle.capture.specs.declared.Asked.{Asked}
-use Rattle.capture.specs.declared.Asked.TheVariants.{Known}
+use Rattle.std.specs.declared.option.Option.{Option}
+use Rattle.std.specs.declared.option.Option.TheVariants.{Some}
 use Rattle.capture.specs.declared.Dialect.{Dialect}
 use Rattle.capture.specs.declared.Dialect.TheVariants.{Sirad, Packets}
 use Rattle.capture.specs.declared.Fed.{Fed}
@@ -51,7 +51,7 @@ StandsIn d bs at kind size = Stands (form_of d) kind size (drop at bs)
 
 -- what the judgement says at an offset
 abbrev pub judged_at : Dialect → List ℕ → ℕ → Verdict
-judged_at d bs at = verdict (Known d) bs at
+judged_at d bs at = verdict (Some d) bs at
 
 -- the open reading, with room for so many rows
 abbrev pub open_of : Dialect → ℕ → List ℕ → Reading
@@ -93,7 +93,7 @@ NoEditionFirst = (edition bits : ℕ) → ((millimetres edition bits).refusal �
 -- a refusal changes no number of the table
 abbrev pub RefusalChangesNothing : Type 0
 RefusalChangesNothing =
-    (asked : Asked) (closed : Bool) (bs table : List ℕ) → ((read_answer asked closed bs (room_in table)).refusal ≡ 0 → ⊥)
+    (asked : Option Dialect) (closed : Bool) (bs table : List ℕ) → ((read_answer asked closed bs (room_in table)).refusal ≡ 0 → ⊥)
     → read_leaves asked closed bs table ≡ table
 
 -- -- Demand 2: it reads exactly what the documents define
@@ -196,8 +196,8 @@ abbrev pub AnswersTheReading : Type 0
 AnswersTheReading =
     (d : Dialect) (closed : Bool) (bs table : List ℕ) → length bs ≤ max_bytes
     → (let r = reading (judge_of d) closed (room_in table) bs in
-    (read_answer (Known d) closed bs (room_in table) ≡ answered r)
-    × (read_leaves (Known d) closed bs table ≡ flat r.rows ++ drop (row_width * length r.rows) table))
+    (read_answer (Some d) closed bs (room_in table) ≡ answered r)
+    × (read_leaves (Some d) closed bs table ≡ flat r.rows ++ drop (row_width * length r.rows) table))
 
 -- no more rows than there is room for
 abbrev pub RowsFit : Type 0
@@ -243,9 +243,9 @@ OpenBegins =
 abbrev pub FullIsFinal : Type 0
 FullIsFinal =
     (d : Dialect) (A B : List ℕ) → length (A ++ B) ≤ max_bytes → (table : List ℕ)
-    → (read_answer (Known d) false A (room_in table)).state ≡ state_full
-    → (read_answer (Known d) false A (room_in table) ≡ read_answer (Known d) false (A ++ B) (room_in table))
-    × (read_leaves (Known d) false A table ≡ read_leaves (Known d) false (A ++ B) table)
+    → (read_answer (Some d) false A (room_in table)).state ≡ state_full
+    → (read_answer (Some d) false A (room_in table) ≡ read_answer (Some d) false (A ++ B) (room_in table))
+    × (read_leaves (Some d) false A table ≡ read_leaves (Some d) false (A ++ B) table)
 
 -- the reading goes on where it stopped: the open reading of A followed by B, with more rows, is that of A and then the open reading of
 -- all bytes from A's next place on, its places shifted; whether A's reading stopped to wait or at a full table
@@ -290,10 +290,10 @@ EndWaits = (d : Dialect) (A : List ℕ) → length A ≤ max_bytes → judged_at
 
 -- the first frame of the main line's leftmost reading; where it has none, that of the standby line; else an empty part of the main line
 pub record ChoosesFirst (d : Dialect) (main standby : List ℕ) : Type 0 where
-  pub from_main : (w : Row) (ws : List Row) → Leftmost (StandsIn d main) 0 (w ∷ ws) → part_of (Known d) main standby ≡ row_part false w
+  pub from_main : (w : Row) (ws : List Row) → Leftmost (StandsIn d main) 0 (w ∷ ws) → part_of (Some d) main standby ≡ row_part false w
   pub from_standby : (w : Row) (ws : List Row) → NoneStands (StandsIn d main) → Leftmost (StandsIn d standby) 0 (w ∷ ws)
-      → part_of (Known d) main standby ≡ row_part true w
-  pub from_neither : NoneStands (StandsIn d main) → NoneStands (StandsIn d standby) → part_of (Known d) main standby ≡ empty_part
+      → part_of (Some d) main standby ≡ row_part true w
+  pub from_neither : NoneStands (StandsIn d main) → NoneStands (StandsIn d standby) → part_of (Some d) main standby ≡ empty_part
 
 -- that of two lines within the size limit
 abbrev pub TwoLines : Type 0
@@ -314,14 +314,14 @@ RefusedLineIsEmpty =
 -- room for them; the state's place and waiting bytes are that reading's next place and rest
 abbrev pub FeedsAsOne : Type 0
 FeedsAsOne =
-    (number : ℕ) (d : Dialect) → dialect_of number ≡ Known d → (s : Stream) (carry bs numbers : List ℕ) → Run number s carry bs numbers
+    (number : ℕ) (d : Dialect) → dialect_of number ≡ Some d → (s : Stream) (carry bs numbers : List ℕ) → Run number s carry bs numbers
     → AsOne d s carry bs numbers
 
 -- an accepted call answers how many rows it wrote and where the stream stands; the table at exit is these rows and the carry the waiting
 -- bytes, each with what was behind them as it was
 abbrev pub FeedAnswersTheReading : Type 0
 FeedAnswersTheReading =
-    (number : ℕ) (d : Dialect) → dialect_of number ≡ Known d
+    (number : ℕ) (d : Dialect) → dialect_of number ≡ Some d
     → (s : Stream) (carry bytes table : List ℕ) (r : Fed) (carry' table' : List ℕ) → Feeds number s carry bytes table r carry' table'
     → r.refusal ≡ 0
     → (let ws = (call_reading d s carry bytes).rows in
@@ -359,7 +359,7 @@ pub record RefusedExactly (d : Dialect) (s : Stream) (carry bytes : List ℕ) (r
 abbrev pub FeedRefusesExactly : Type 0
 FeedRefusesExactly =
     (d : Dialect) (s : Stream) (carry bytes : List ℕ) (room : ℕ)
-    → RefusedExactly d s carry bytes room (feed_answer (Known d) s carry bytes room).refusal
+    → RefusedExactly d s carry bytes room (feed_answer (Some d) s carry bytes room).refusal
 
 -- fewer bytes are left waiting than the longest frame has, so a carry buffer of 65,550 bytes (for packets 32,767) is never too short
 abbrev pub CarryEnough : Type 0

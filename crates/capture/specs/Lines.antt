@@ -5,8 +5,8 @@ use Rattle.reading.specs.Reading.{reading}
 use Rattle.reading.specs.declared.Row.{Row}
 use Rattle.capture.specs.Dialects.{judge_of}
 use Rattle.capture.specs.Entries.{max_bytes}
-use Rattle.capture.specs.declared.Asked.{Asked}
-use Rattle.capture.specs.declared.Asked.TheVariants.{Known, Unknown}
+use Rattle.std.specs.declared.option.Option.{Option}
+use Rattle.std.specs.declared.option.Option.TheVariants.{Some, None}
 use Rattle.capture.specs.declared.Dialect.{Dialect}
 use Rattle.capture.specs.declared.Part.{Part}
 
@@ -34,9 +34,9 @@ chosen [] (w ∷ ws) = row_part true w
 chosen [] [] = empty_part
 
 -- which part of which line; an empty one for a dialect or a line (either one) that 1 or 3 refuses
-unfoldable pub part_of : Asked → List ℕ → List ℕ → Part
-part_of Unknown main standby = empty_part
-part_of (Known d) main standby =
+unfoldable pub part_of : Option Dialect → List ℕ → List ℕ → Part
+part_of None main standby = empty_part
+part_of (Some d) main standby =
     cond (ltb max_bytes (length main)) empty_part
     (cond (ltb max_bytes (length standby)) empty_part (chosen (closed_rows d main) (closed_rows d standby)))
 

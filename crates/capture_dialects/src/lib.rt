@@ -4,18 +4,18 @@
 ghost use Rattle.std.specs.Prelude.{◌≡◌};
 ghost use Rattle.capture.specs.Dialects.{dialect_of, packet_number, dialect_number, start_of};
 
-use capture::{Asked, Dialect};
+use capture::Dialect;
 use mmwave::PacketDialect;
 
 // The dialect that a number asks for.
-pub fn dialect_of(number: u32) -> Asked
+pub fn dialect_of(number: u32) -> Option<Dialect>
     ensures { result ≡ dialect_of number }
 {
     match number {
-        0 => Asked::Known(Dialect::Sirad),
-        1 => Asked::Known(Dialect::Packets(PacketDialect::MmWave)),
-        2 => Asked::Known(Dialect::Packets(PacketDialect::VitalSigns)),
-        _ => Asked::Unknown,
+        0 => Some(Dialect::Sirad),
+        1 => Some(Dialect::Packets(PacketDialect::MmWave)),
+        2 => Some(Dialect::Packets(PacketDialect::VitalSigns)),
+        _ => None,
     }
 }
 

@@ -6,7 +6,7 @@ ghost use Rattle.capture.specs.Dialects.{form_of, judge_of};
 ghost use Rattle.form.specs.Numbers.{Judges};
 ghost use Rattle.capture.specs.Entries.{max_bytes, verdict, JudgesAt};
 
-use capture::{Asked, Dialect, Verdict};
+use capture::{Dialect, Verdict};
 pub use capture_dialects::{dialect_of, number_of, start_byte};
 use form::Judgement;
 
@@ -55,7 +55,7 @@ pub fn judge_from(bytes: &[u8], at: usize, d: Dialect) -> Judgement
 }
 
 fn judge_known(bytes: &[u8], at: usize, d: Dialect) -> Verdict
-    ensures { result ≡ verdict (Asked.Known d) bytes.now at }
+    ensures { result ≡ verdict (Some d) bytes.now at }
 {
     let size = bytes.len();
     if MAX_BYTES < size {
@@ -74,7 +74,7 @@ pub fn judge_at(dialect: u32, bytes: &[u8], offset: usize) -> Verdict
     ensures { JudgesAt dialect bytes.now offset result }
 {
     match dialect_of(dialect) {
-        Asked::Known(d) => judge_known(bytes, offset, d),
-        Asked::Unknown => Verdict::Refused(UNKNOWN_DIALECT),
+        Some(d) => judge_known(bytes, offset, d),
+        None => Verdict::Refused(UNKNOWN_DIALECT),
     }
 }

@@ -6,7 +6,7 @@ ghost use Rattle.capture.specs.Dialects.{dialect_of};
 ghost use Rattle.capture.specs.Lines.{closed_rows, first_row, row_part, part_of, RefersTo};
 ghost use Rattle.capture.specs.Entries.{max_bytes};
 
-use capture::{Asked, Dialect, Part};
+use capture::{Dialect, Part};
 use capture_judge::{MAX_BYTES, dialect_of, number_of};
 use capture_read::closed_reading;
 use reading::Row;
@@ -36,7 +36,7 @@ fn row_part(standby: bool, w: Row) -> Part
 }
 
 fn choose_known(main: &[u8], standby: &[u8], d: Dialect) -> Part
-    ensures { result ≡ part_of (Asked.Known d) main.now standby.now }
+    ensures { result ≡ part_of (Some d) main.now standby.now }
 {
     if MAX_BYTES < main.len() {
         return Part {
@@ -72,8 +72,8 @@ pub fn choose_part(dialect: u32, main: &[u8], standby: &[u8]) -> Part
     ensures { result ≡ part_of (dialect_of dialect) main.now standby.now }
 {
     match dialect_of(dialect) {
-        Asked::Known(d) => choose_known(main, standby, d),
-        Asked::Unknown => Part {
+        Some(d) => choose_known(main, standby, d),
+        None => Part {
             standby: false,
             offset: 0,
             size: 0,

@@ -38,7 +38,7 @@ use Rattle.demorad.proofs.RefusedFirst.{refused_first}
 use Rattle.capture.specs.Dialects.{dialect_of, judge_of}
 use Rattle.capture.specs.Entries.{max_bytes, verdict, verdict_numbers, read_answer, read_leaves}
 use Rattle.capture.specs.Lines.{empty_part, part_of}
-use Rattle.capture.specs.declared.Asked.TheVariants.{Known, Unknown}
+use Rattle.std.specs.declared.option.Option.TheVariants.{Some, None}
 use Rattle.capture.specs.declared.Dialect.{Dialect}
 use Rattle.capture.specs.declared.Dialect.TheVariants.{Sirad, Packets}
 use Rattle.capture.specs.declared.Verdict.{Verdict}
@@ -54,7 +54,7 @@ use Rattle.demands.proofs.InOrder.{fails_exactly, less_exactly, fine, when_test,
 -- -- Judgement and readings
 
 -- the numbers of the dialects
-pub asked_is : (dialect : ℕ) → dialect < 3 → (d : Dialect) × (dialect_of dialect ≡ Known d)
+pub asked_is : (dialect : ℕ) → dialect < 3 → (d : Dialect) × (dialect_of dialect ≡ Some d)
 unfolding dialect_of
 asked_is zero h = (Sirad, refl)
 asked_is (suc zero) h = (Packets MmWave, refl)
@@ -62,7 +62,7 @@ asked_is (suc (suc zero)) h = (Packets VitalSigns, refl)
 asked_is (suc (suc (suc n))) h = absurd (omega arith)
 
 -- and no others
-pub asked_none : (dialect : ℕ) → 3 ≤ dialect → dialect_of dialect ≡ Unknown
+pub asked_none : (dialect : ℕ) → 3 ≤ dialect → dialect_of dialect ≡ None
 asked_none dialect h = sym (dialect_none dialect (λ e. omega arith) (λ e. omega arith) (λ e. omega arith))
 
 not_refused : (j : Judgement) → (verdict_numbers (Judged j)).refusal ≡ 0
@@ -76,16 +76,16 @@ zero_verdict n = verdict_numbers (Refused n)
 
 verdict_refuses : (d : Dialect) (bs : List ℕ) (at : ℕ)
     → Refuses (3 when (max_bytes < length bs) else 2 when (length bs < at) else none) zero_verdict (λ (a : JudgementNumbers). a.refusal)
-    (verdict_numbers (verdict (Known d) bs at))
+    (verdict_numbers (verdict (Some d) bs at))
 unfolding verdict
 verdict_refuses d bs at =
     when_test zero_verdict (λ (a : JudgementNumbers). a.refusal) (λ n. refl) (2 when (length bs < at) else none) 3
-    (ltb max_bytes (length bs)) (less_exactly max_bytes (length bs)) (verdict_numbers (verdict (Known d) bs at)) (λ long. rw long)
+    (ltb max_bytes (length bs)) (less_exactly max_bytes (length bs)) (verdict_numbers (verdict (Some d) bs at)) (λ long. rw long)
     (λ short.
     when_test zero_verdict (λ (a : JudgementNumbers). a.refusal) (λ n. refl) none 2
-    (ltb (length bs) at) (less_exactly (length bs) at) (verdict_numbers (verdict (Known d) bs at)) (λ beyond. rw (short, beyond))
+    (ltb (length bs) at) (less_exactly (length bs) at) (verdict_numbers (verdict (Some d) bs at)) (λ beyond. rw (short, beyond))
     (λ inside.
-    fine zero_verdict (λ (a : JudgementNumbers). a.refusal) (λ n. refl) (verdict_numbers (verdict (Known d) bs at))
+    fine zero_verdict (λ (a : JudgementNumbers). a.refusal) (λ n. refl) (verdict_numbers (verdict (Some d) bs at))
     (rw (short, inside) (not_refused (judge_of d (drop at bs))))))
 
 pub judgement_refuses : say.JudgementRefuses
@@ -115,7 +115,7 @@ reading_refuses dialect closed bs room =
 
 -- what is not refused is a known dialect's, within the size limit
 reading_accepts : (d : Dialect) (closed : Bool) (bs : List ℕ) (room : ℕ) → length bs ≤ max_bytes
-    → (read_answer (Known d) closed bs room).refusal ≡ 0
+    → (read_answer (Some d) closed bs room).refusal ≡ 0
 unfolding read_answer
 reading_accepts d closed bs room h = rw (le-ltb max_bytes (length bs) h)
 
@@ -132,7 +132,7 @@ refused_reading_changes_nothing dialect closed bs table h = by_number (dec_lt di
 pub refused_line_is_empty : say.RefusedLineIsEmpty
 refused_line_is_empty dialect main standby closed room h = by_number (dec_lt dialect 3)
   where
-    by_length : (d : Dialect) → dialect_of dialect ≡ Known d → Dec (max_bytes < length main) → Dec (max_bytes < length standby)
+    by_length : (d : Dialect) → dialect_of dialect ≡ Some d → Dec (max_bytes < length main) → Dec (max_bytes < length standby)
         → part_of (dialect_of dialect) main standby ≡ empty_part
     by_length d e (yes l) m = rw e (sym (main_long d main standby l))
     by_length d e (no l) (yes m) = rw e (sym (standby_long d main standby (omega arith) m))

@@ -13,8 +13,8 @@ use Rattle.digits.proofs.Choices.{test}
 use Rattle.units.specs.declared.Quantity.{Quantity}
 use Rattle.units.specs.Units.{is_edition, Edition, millimetres}
 use Rattle.units.proofs.Theorems.{edition_exactly, no_edition, millimetres_32, millimetres_0}
-use Rattle.packet.specs.declared.Found.{Found}
-use Rattle.packet.specs.declared.Found.TheVariants.{At, Missing}
+use Rattle.std.specs.declared.option.Option.{Option}
+use Rattle.std.specs.declared.option.Option.TheVariants.{Some, None}
 use Rattle.packet.specs.declared.PacketHeader.{PacketHeader}
 use Rattle.packet.specs.declared.PacketRecord.{PacketRecord}
 use Rattle.packet.specs.declared.PacketStep.{PacketStep}
@@ -62,22 +62,22 @@ step_refuses kind bs at =
 
 -- -- Points
 
-found_has : (bs : List ℕ) (q : ℕ) → point_record bs ≡ At q → HasPoints bs
+found_has : (bs : List ℕ) (q : ℕ) → point_record bs ≡ Some q → HasPoints bs
 found_has bs q a = let f = found_first 1 bs (records_of bs) 40 q a in (f.0, f.1.below, f.1.here)
 
-missing_lacks : (bs : List ℕ) → point_record bs ≡ Missing → HasPoints bs → ⊥
+missing_lacks : (bs : List ℕ) → point_record bs ≡ None → HasPoints bs → ⊥
 missing_lacks bs m h = missing_none 1 bs (records_of bs) 40 m h.0 h.1 h.2
 
 -- an answer on points: 7 where no record is found, else what is said of the record
 by_record : {A : Type 0} (zeros : ℕ → A) (number : A → ℕ) (numbered : (n : ℕ) → number (zeros n) ≡ n) (others : Said) (bs : List ℕ)
-    (read : Found → A) → read Missing ≡ zeros 7 → ((q : ℕ) → point_record bs ≡ At q → Refuses others zeros number (read (At q)))
+    (read : Option ℕ → A) → read None ≡ zeros 7 → ((q : ℕ) → point_record bs ≡ Some q → Refuses others zeros number (read (Some q)))
     → Refuses (7 unless (HasPoints bs) else others) zeros number (read (point_record bs))
 by_record {A = A} zeros number numbered others bs read lacks there = go (point_record bs) refl
   where
-    go : (f : Found) → point_record bs ≡ f → Refuses (7 unless (HasPoints bs) else others) zeros number (read f)
-    go (At q) a = let r = there q a in record { in_order = inr (found_has bs q a, r.in_order); every_other_0 = r.every_other_0 }
-    go Missing m =
-        zeros_beside zeros number numbered (7 unless (HasPoints bs) else others) 7 (read Missing) lacks
+    go : (f : Option ℕ) → point_record bs ≡ f → Refuses (7 unless (HasPoints bs) else others) zeros number (read f)
+    go (Some q) a = let r = there q a in record { in_order = inr (found_has bs q a, r.in_order); every_other_0 = r.every_other_0 }
+    go None m =
+        zeros_beside zeros number numbered (7 unless (HasPoints bs) else others) 7 (read None) lacks
         (inl (missing_lacks bs m, ap number lacks ∙ numbered 7))
 
 pub points_refuse : say.PointsRefuse
@@ -88,7 +88,7 @@ points_refuse bs =
     (λ y.
     rw y
     (by_record no_points number (λ n. refl) none bs (points_found (objects_of bs)) refl
-    (λ q a. fine no_points number (λ n. refl) (points_found (objects_of bs) (At q)) refl)))
+    (λ q a. fine no_points number (λ n. refl) (points_found (objects_of bs) (Some q)) refl)))
   where
     number : PacketPoints → ℕ
     number a = a.refusal

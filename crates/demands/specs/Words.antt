@@ -7,7 +7,7 @@ use Rattle.mmwave.specs.Paper.{EndsInField}
 use Rattle.mmwave.specs.Dialects.{sentences_of}
 use Rattle.capture.specs.Dialects.{form_of, judge_of}
 use Rattle.capture.specs.Entries.{verdict}
-use Rattle.capture.specs.declared.Asked.TheVariants.{Known}
+use Rattle.std.specs.declared.option.Option.TheVariants.{Some}
 use Rattle.capture.specs.declared.Dialect.{Dialect}
 use Rattle.capture.specs.declared.Dialect.TheVariants.{Sirad, Packets}
 use Rattle.capture.specs.declared.Verdict.{Verdict}
@@ -44,7 +44,7 @@ StandsIn d bs at kind size = Stands (form_of d) kind size (drop at bs)
 
 -- what the judgement says at a place
 abbrev pub judged_at : Dialect → List ℕ → ℕ → Verdict
-judged_at d bs at = verdict (Known d) bs at
+judged_at d bs at = verdict (Some d) bs at
 
 -- the open reading, with room for so many rows
 abbrev pub open_of : Dialect → ℕ → List ℕ → Reading

@@ -19,7 +19,7 @@ use Rattle.reading.specs.declared.Row.{Row}
 use Rattle.reading.proofs.Rows.{numbers_behind_stay, lengths_and_skips_are_next, next_within}
 use Rattle.capture.specs.Dialects.{dialect_number, judge_of, dialect_of}
 use Rattle.capture.specs.Entries.{max_bytes, read_answer, read_leaves, Reads}
-use Rattle.capture.specs.declared.Asked.TheVariants.{Known}
+use Rattle.std.specs.declared.option.Option.TheVariants.{Some}
 use Rattle.capture.specs.declared.Dialect.{Dialect}
 use Rattle.capture.proofs.Wires.{lawful_of, number_names}
 use Rattle.listing.specs.Lines.{header_line, row_line, row_lines, end_line, refused_line}
@@ -42,7 +42,7 @@ module _ (d : Dialect) (bs : List ℕ) (short : length bs ≤ max_input) where
       → Reads number true bs table a after → Closed d bs a after
   unfolding read_answer read_leaves
   closed_whole number table after a n e r =
-      let k : dialect_of number ≡ Known d = ap dialect_of n ∙ number_names d in
+      let k : dialect_of number ≡ Some d = ap dialect_of n ∙ number_names d in
       let w : reading (judge_of d) true 8192 bs ≡ closed_reading d bs = room_enough d bs 8192 (omega arith) in
       let m : room_in table ≡ 8192 = rw (← e) in
       let x : a ≡ answered (reading (judge_of d) true 8192 bs) = rw (k, le-ltb max_bytes (length bs) (omega arith), m) at r.answers in

@@ -16,8 +16,8 @@ use Rattle.units.specs.declared.Quantity.{Quantity}
 use Rattle.units.specs.Float.{not_finite, magnitude}
 use Rattle.units.specs.Units.{is_edition, Edition, coordinate, millimetres}
 use Rattle.units.proofs.Theorems.{millimetres_32}
-use Rattle.packet.specs.declared.Found.{Found}
-use Rattle.packet.specs.declared.Found.TheVariants.{At, Missing}
+use Rattle.std.specs.declared.option.Option.{Option}
+use Rattle.std.specs.declared.option.Option.TheVariants.{Some, None}
 use Rattle.packet.specs.declared.PacketHeader.{PacketHeader}
 use Rattle.packet.specs.declared.PacketRecord.{PacketRecord}
 use Rattle.packet.specs.declared.PacketStep.{PacketStep}
@@ -126,10 +126,10 @@ step_refusals kind bs at = record {
 
 -- -- The points
 
-found_has : (bs : List ℕ) (q : ℕ) → point_record bs ≡ At q → HasPoints bs
+found_has : (bs : List ℕ) (q : ℕ) → point_record bs ≡ Some q → HasPoints bs
 found_has bs q a = let f = found_first 1 bs (records_of bs) 40 q a in (f.0, f.1.below, f.1.here)
 
-missing_lacks : (bs : List ℕ) → point_record bs ≡ Missing → HasPoints bs → ⊥
+missing_lacks : (bs : List ℕ) → point_record bs ≡ None → HasPoints bs → ⊥
 missing_lacks bs m h = missing_none 1 bs (records_of bs) 40 m h.0 h.1 h.2
 
 pub points_refusals : (bs : List ℕ) → PointsRefusals bs
@@ -143,17 +143,17 @@ points_refusals bs = record {
     number : PacketPoints → ℕ
     number answer = answer.refusal
 
-    zero_exactly : (f : Found) → point_record bs ≡ f → ((points_found (objects_of bs) f).refusal ≡ 0) ↔ HasPoints bs
-    zero_exactly (At q) a = (λ h. found_has bs q a, λ h. refl)
-    zero_exactly Missing m = (λ h. absurd (omega arith), λ h. absurd (missing_lacks bs m h))
+    zero_exactly : (f : Option ℕ) → point_record bs ≡ f → ((points_found (objects_of bs) f).refusal ≡ 0) ↔ HasPoints bs
+    zero_exactly (Some q) a = (λ h. found_has bs q a, λ h. refl)
+    zero_exactly None m = (λ h. absurd (omega arith), λ h. absurd (missing_lacks bs m h))
 
-    seven_exactly : (f : Found) → point_record bs ≡ f → ((points_found (objects_of bs) f).refusal ≡ 7) ↔ (HasPoints bs → ⊥)
-    seven_exactly (At q) a = (λ h. absurd (omega arith), λ n. absurd (n (found_has bs q a)))
-    seven_exactly Missing m = (λ h. missing_lacks bs m, λ n. refl)
+    seven_exactly : (f : Option ℕ) → point_record bs ≡ f → ((points_found (objects_of bs) f).refusal ≡ 7) ↔ (HasPoints bs → ⊥)
+    seven_exactly (Some q) a = (λ h. absurd (omega arith), λ n. absurd (n (found_has bs q a)))
+    seven_exactly None m = (λ h. missing_lacks bs m, λ n. refl)
 
-    not_five : (f : Found) → (points_found (objects_of bs) f).refusal ≡ 5 → ⊥
-    not_five (At q) h = omega arith
-    not_five Missing h = omega arith
+    not_five : (f : Option ℕ) → (points_found (objects_of bs) f).refusal ≡ 5 → ⊥
+    not_five (Some q) h = omega arith
+    not_five None h = omega arith
 
 -- -- A point
 
@@ -230,34 +230,34 @@ first_once {i = i} {j = j} f g = go (dec_lt i j) (dec_lt j i)
     go (no n) (no m) = omega arith
 
 module _ (edition : ℕ) (bs : List ℕ) (i : ℕ) where
-  abbrev found : Found → ℕ
+  abbrev found : Option ℕ → ℕ
   found f = (point_found edition bs (objects_of bs) i f).refusal
 
   -- a number below 30 that only the index gives
-  six_exactly : (f : Found) → point_record bs ≡ f → (found f ≡ 6) ↔ (HasPoints bs × (objects_of bs ≤ i))
-  six_exactly (At q) a = Iff.trans
+  six_exactly : (f : Option ℕ) → point_record bs ≡ f → (found f ≡ 6) ↔ (HasPoints bs × (objects_of bs ≤ i))
+  six_exactly (Some q) a = Iff.trans
       (second_exactly (λ (x : PacketPoint). x.refusal) (ltb i (objects_of bs)) (point_at edition bs (q + 8 + 16 * i)) (no_point 6) 6 refl
       (point_not edition bs (q + 8 + 16 * i) 6 (omega arith) (omega arith)))
       (λ h. (found_has bs q a, ltb-false i (objects_of bs) h), λ h. le-ltb i (objects_of bs) h.1)
-  six_exactly Missing m = (λ h. absurd (omega arith), λ h. absurd (missing_lacks bs m h.0))
+  six_exactly None m = (λ h. absurd (omega arith), λ h. absurd (missing_lacks bs m h.0))
 
-  not_of_record : (q n : ℕ) → 0 < n → n < 30 → (n ≡ 6 → ⊥) → found (At q) ≡ n → ⊥
+  not_of_record : (q n : ℕ) → 0 < n → n < 30 → (n ≡ 6 → ⊥) → found (Some q) ≡ n → ⊥
   not_of_record q n a b m =
       neither (λ (x : PacketPoint). x.refusal) (ltb i (objects_of bs)) (point_at edition bs (q + 8 + 16 * i)) (no_point 6) n
       (point_not edition bs (q + 8 + 16 * i) n a b) (λ e. m (sym e))
 
-  seven_exactly : (f : Found) → point_record bs ≡ f → (found f ≡ 7) ↔ (HasPoints bs → ⊥)
-  seven_exactly (At q) a =
+  seven_exactly : (f : Option ℕ) → point_record bs ≡ f → (found f ≡ 7) ↔ (HasPoints bs → ⊥)
+  seven_exactly (Some q) a =
       (λ h. absurd (not_of_record q 7 (omega arith) (omega arith) (λ e. omega arith) h), λ n. absurd (n (found_has bs q a)))
-  seven_exactly Missing m = (λ h. missing_lacks bs m, λ n. refl)
+  seven_exactly None m = (λ h. missing_lacks bs m, λ n. refl)
 
-  not_five : (f : Found) → found f ≡ 5 → ⊥
-  not_five (At q) h = not_of_record q 5 (omega arith) (omega arith) (λ e. omega arith) h
-  not_five Missing h = omega arith
+  not_five : (f : Option ℕ) → found f ≡ 5 → ⊥
+  not_five (Some q) h = not_of_record q 5 (omega arith) (omega arith) (λ e. omega arith) h
+  not_five None h = omega arith
 
-  unnamed : (f : Found) → point_record bs ≡ f → (found f ≡ 32) ↔ (HasPoints bs × (i < objects_of bs) × (Edition edition → ⊥))
-  unnamed Missing m = (λ h. absurd (omega arith), λ h. absurd (missing_lacks bs m h.0))
-  unnamed (At q) a = (to, from)
+  unnamed : (f : Option ℕ) → point_record bs ≡ f → (found f ≡ 32) ↔ (HasPoints bs × (i < objects_of bs) × (Edition edition → ⊥))
+  unnamed None m = (λ h. absurd (omega arith), λ h. absurd (missing_lacks bs m h.0))
+  unnamed (Some q) a = (to, from)
     where
       to : (cond (ltb i (objects_of bs)) (point_at edition bs (q + 8 + 16 * i)) (no_point 6)).refusal ≡ 32
           → HasPoints bs × (i < objects_of bs) × (Edition edition → ⊥)
@@ -269,10 +269,10 @@ module _ (edition : ℕ) (bs : List ℕ) (i : ℕ) where
           → (cond (ltb i (objects_of bs)) (point_at edition bs (q + 8 + 16 * i)) (no_point 6)).refusal ≡ 32
       from h = rw (lt-ltb i (objects_of bs) h.1) ((unnamed_exactly edition bs (q + 8 + 16 * i)).1 h.2)
 
-  zero_exactly : (f : Found) → point_record bs ≡ f → (found f ≡ 0) ↔ PointThere edition bs i
-  zero_exactly Missing m =
+  zero_exactly : (f : Option ℕ) → point_record bs ≡ f → (found f ≡ 0) ↔ PointThere edition bs i
+  zero_exactly None m =
       (λ h. absurd (omega arith), λ t. absurd (missing_lacks bs m (t.place, t.first.below, t.first.here)))
-  zero_exactly (At q) a = (to, from)
+  zero_exactly (Some q) a = (to, from)
     where
       first : (j : ℕ) × IsFirst 1 bs (records_of bs) 40 j × (q ≡ record_at bs j 40)
       first = found_first 1 bs (records_of bs) 40 q a

@@ -8,7 +8,7 @@ use native.Mathlib.Omega.{arith}
 use lib.Dec.{eqb}
 use borrow.Author.Tests.{lt-ltb, eq-eqb, ne_eqb, eqb-true}
 use Rattle.digits.proofs.Choices.{test, both_ways}
-use Rattle.packet.specs.declared.Found.TheVariants.{At, Missing}
+use Rattle.std.specs.declared.option.Option.TheVariants.{Some, None}
 use Rattle.packet.specs.declared.PacketStep.{PacketStep}
 use Rattle.packet.specs.Steps.{step_over, cursor_after, StepsAreRecords}
 use Rattle.packet.specs.Walk.{records_of, type_at, end_at, record_at, starts_among, first_of_type, IsFirst}
@@ -17,14 +17,14 @@ use Rattle.packet.specs.Fields.{is_packet, record_read, record_of, no_step, step
 -- -- The first record of a type
 
 -- what is found is the first record of the type
-pub found_first : (type : ℕ) (bs : List ℕ) (k p q : ℕ) → first_of_type type bs k p ≡ At q
+pub found_first : (type : ℕ) (bs : List ℕ) (k p q : ℕ) → first_of_type type bs k p ≡ Some q
     → (j : ℕ) × IsFirst type bs k p j × (q ≡ record_at bs j p)
 unfolding first_of_type record_at
 found_first type bs zero p q h = let z : ◌≡◌ {A = ℕ} 0 1 = cc in absurd (omega arith)
 found_first type bs (suc k) p q h =
     test (eqb (type_at bs p) type) (λ y. here y (rw y at h)) (λ n. later n (found_first type bs k (end_at bs p) q (rw n at h)))
   where
-    here : eqb (type_at bs p) type ≡ true → At p ≡ At q → (j : ℕ) × IsFirst type bs (suc k) p j × (q ≡ record_at bs j p)
+    here : eqb (type_at bs p) type ≡ true → Some p ≡ Some q → (j : ℕ) × IsFirst type bs (suc k) p j × (q ≡ record_at bs j p)
     here y e = (0, record { below = omega arith; here = eqb-true (type_at bs p) type y; before = λ i l x. omega arith }, cc)
 
     later : eqb (type_at bs p) type ≡ false → ((j : ℕ) × IsFirst type bs k (end_at bs p) j × (q ≡ record_at bs j (end_at bs p)))
@@ -36,16 +36,16 @@ found_first type bs (suc k) p q h =
         not_before (suc i) l x = f.before i (omega arith) x
 
 -- where none is found, no record has the type
-pub missing_none : (type : ℕ) (bs : List ℕ) (k p : ℕ) → first_of_type type bs k p ≡ Missing
+pub missing_none : (type : ℕ) (bs : List ℕ) (k p : ℕ) → first_of_type type bs k p ≡ None
     → (j : ℕ) → j < k → type_at bs (record_at bs j p) ≡ type → ⊥
 unfolding first_of_type record_at
 missing_none type bs zero p h j l x = omega arith
 missing_none type bs (suc k) p h zero l x =
-    let e : At p ≡ Missing = rw (eq-eqb (type_at bs p) type x) at h in
+    let e : Some p ≡ None = rw (eq-eqb (type_at bs p) type x) at h in
     let z : ◌≡◌ {A = ℕ} 0 1 = cc in
     omega arith
 missing_none type bs (suc k) p h (suc j) l x = test (eqb (type_at bs p) type)
-    (λ y. let e : At p ≡ Missing = rw y at h in let z : ◌≡◌ {A = ℕ} 0 1 = cc in omega arith)
+    (λ y. let e : Some p ≡ None = rw y at h in let z : ◌≡◌ {A = ℕ} 0 1 = cc in omega arith)
     (λ n. missing_none type bs k (end_at bs p) (rw n at h) j (omega arith) x)
 
 -- -- Steps

@@ -8,7 +8,7 @@ ghost use Rattle.packet.specs.Internal.{Walkable};
 
 use form::Judgement;
 use mmwave::Header;
-use packet::{Cursor, NamedKind, PacketRecord, PacketStep};
+use packet::{Cursor, PacketRecord, PacketStep};
 use packet_header::{NO_SUCH_INDEX, NOT_ONE_PACKET, RECORD_HEADER, dialect_named, payload_length};
 
 // -- The walk over the records
@@ -95,7 +95,7 @@ fn read_record(s: &[u8], index: usize) -> PacketRecord
 pub fn record(kind: u32, packet: &[u8], index: usize) -> PacketRecord
     ensures { RecordShown kind packet.now index result }
 {
-    let NamedKind::Packets(d) = dialect_named(kind) else {
+    let Some(d) = dialect_named(kind) else {
         return no_record(NOT_ONE_PACKET);
     };
     let Judgement::Whole(found, length) = mmwave_judge::judge(packet, d) else {
@@ -158,7 +158,7 @@ pub fn step(kind: u32, packet: &[u8], cursor: Cursor) -> PacketStep
     ensures { StepShown kind packet.now cursor.at result }
 {
     let at = cursor.at;
-    let NamedKind::Packets(d) = dialect_named(kind) else {
+    let Some(d) = dialect_named(kind) else {
         return no_step(at, NOT_ONE_PACKET);
     };
     let Judgement::Whole(found, length) = mmwave_judge::judge(packet, d) else {

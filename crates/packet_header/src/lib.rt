@@ -8,7 +8,7 @@ ghost use Rattle.packet.specs.Fields.{dialect_named, no_header, header_shown, he
 use form::Judgement;
 use mmwave::{Header, PacketDialect};
 use mmwave_dialects::{KIND, VITAL_KIND};
-use packet::{NamedKind, PacketHeader};
+use packet::PacketHeader;
 
 // Refusals (paper 01, "Refusal numbers").
 pub const NOT_ONE_PACKET: u32 = 5;
@@ -21,16 +21,16 @@ pub const RECORD_HEADER: usize = 8;
 const LENGTH_FIELD: usize = 4;
 
 // The dialect whose packets have this kind.
-pub fn dialect_named(kind: u32) -> NamedKind
+pub fn dialect_named(kind: u32) -> Option<PacketDialect>
     ensures { result ≡ dialect_named kind }
 {
     if kind == KIND {
-        return NamedKind::Packets(PacketDialect::MmWave);
+        return Some(PacketDialect::MmWave);
     }
     if kind == VITAL_KIND {
-        return NamedKind::Packets(PacketDialect::VitalSigns);
+        return Some(PacketDialect::VitalSigns);
     }
-    NamedKind::Other
+    None
 }
 
 // -- The packet's header
@@ -75,7 +75,7 @@ fn read_header(s: &[u8]) -> PacketHeader
 pub fn header(kind: u32, packet: &[u8]) -> PacketHeader
     ensures { result ≡ header_of kind packet.now }
 {
-    let NamedKind::Packets(d) = dialect_named(kind) else {
+    let Some(d) = dialect_named(kind) else {
         return no_header();
     };
     let Judgement::Whole(found, length) = mmwave_judge::judge(packet, d) else {

@@ -13,8 +13,8 @@ use lib.Seq.{take_all}
 use borrow.Author.Tests.{eqb-true, eqb-false, eq-eqb, ne_eqb, leb-true, le-leb, lt-ltb, le-ltb, ltb-true, ltb-false}
 use Rattle.digits.proofs.Choices.{test, both_ways, and_parts, and_both}
 use Rattle.mmwave.specs.declared.PacketDialect.TheVariants.{MmWave}
-use Rattle.packet.specs.declared.Found.{Found}
-use Rattle.packet.specs.declared.Found.TheVariants.{At, Missing}
+use Rattle.std.specs.declared.option.Option.{Option}
+use Rattle.std.specs.declared.option.Option.TheVariants.{Some, None}
 use Rattle.packet.specs.declared.PacketPoint.{PacketPoint}
 use Rattle.packet.specs.Fields.{is_packet, point_record, points_of, point_of}
 use Rattle.packet.specs.Walk.{objects_of}
@@ -97,14 +97,14 @@ told_33 true false true true h = (refl, refl, refl, refl)
 told_33 true false true false h = absurd (omega arith)
 
 -- what is found is no refusal
-found_sure : (find : List ℕ → Found) (bs : List ℕ) (ws : List Row) → (first_in find bs ws).refusal ≡ 0
+found_sure : (find : List ℕ → Option ℕ) (bs : List ℕ) (ws : List Row) → (first_in find bs ws).refusal ≡ 0
 unfolding first_in
 found_sure find bs [] = refl
 found_sure find bs (w ∷ ws) = by_find (find (frame_of bs w)) (found_sure find bs ws)
   where
-    by_find : (f : Found) → (first_in find bs ws).refusal ≡ 0 → (or_later w.offset f (first_in find bs ws)).refusal ≡ 0
-    by_find (At i) e = refl
-    by_find Missing e = e
+    by_find : (f : Option ℕ) → (first_in find bs ws).refusal ≡ 0 → (or_later w.offset f (first_in find bs ws)).refusal ≡ 0
+    by_find (Some i) e = refl
+    by_find None e = e
 
 pub close_refuses_exactly : say.CloseRefusesExactly
 unfolding closeness
@@ -213,21 +213,21 @@ module _ (edition d : ℕ) (bs : List ℕ) where
       told_5 : ◌≡◌ {A = ℕ} 5 0 → ⊥
       told_5 e = omega arith
 
-      by_record : is_packet 16 bs ≡ true → (f : Found) → point_record bs ≡ f → ⊥
-      by_record y (At p) e =
+      by_record : is_packet 16 bs ≡ true → (f : Option ℕ) → point_record bs ≡ f → ⊥
+      by_record y (Some p) e =
           let below : objects_of bs ≤ i = rw (y, e) at l in
           let z : ◌≡◌ {A = ℕ} 6 0 = rw (y, e, le-ltb i (objects_of bs) below) at c.given in
           omega arith
-      by_record y Missing e = let z : ◌≡◌ {A = ℕ} 7 0 = rw (y, e) at c.given in omega arith
+      by_record y None e = let z : ◌≡◌ {A = ℕ} 7 0 = rw (y, e) at c.given in omega arith
 
   -- what the search from index i on finds is close, and none before it is
-  from_found : (n i j : ℕ) → first_close edition d bs n i ≡ At j
+  from_found : (n i j : ℕ) → first_close edition d bs n i ≡ Some j
       → (i ≤ j) × CloseIn edition d bs j × ((k : ℕ) → i ≤ k → k < j → CloseIn edition d bs k → ⊥)
   unfolding first_close
   from_found zero i j h = let z : ◌≡◌ {A = ℕ} 0 1 = cc in absurd (omega arith)
   from_found (suc n) i j h = test (close i) (λ y. here y (rw y at h)) (λ f. later f (from_found n (i + 1) j (rw f at h)))
     where
-      here : close i ≡ true → At i ≡ At j → (i ≤ j) × CloseIn edition d bs j × ((k : ℕ) → i ≤ k → k < j → CloseIn edition d bs k → ⊥)
+      here : close i ≡ true → Some i ≡ Some j → (i ≤ j) × CloseIn edition d bs j × ((k : ℕ) → i ≤ k → k < j → CloseIn edition d bs k → ⊥)
       here y e = let s : i ≡ j = cc in (
         omega arith,
         rw s at ((close_exactly d (point_of edition bs i)).0 y),
@@ -244,11 +244,11 @@ module _ (edition d : ℕ) (bs : List ℕ) where
           by_index k q c (no b) p = let s : k ≡ i = omega arith in not_close i f (rw s at c)
 
   -- where it finds none, none is
-  from_missing : (n i : ℕ) → first_close edition d bs n i ≡ Missing → (k : ℕ) → i ≤ k → k < i + n → CloseIn edition d bs k → ⊥
+  from_missing : (n i : ℕ) → first_close edition d bs n i ≡ None → (k : ℕ) → i ≤ k → k < i + n → CloseIn edition d bs k → ⊥
   unfolding first_close
   from_missing zero i h k p q c = omega arith
   from_missing (suc n) i h k p q c =
-      test (close i) (λ y. let z : At i ≡ Missing = rw y at h in let o : ◌≡◌ {A = ℕ} 0 1 = cc in omega arith)
+      test (close i) (λ y. let z : Some i ≡ None = rw y at h in let o : ◌≡◌ {A = ℕ} 0 1 = cc in omega arith)
       (λ f. by_index f (from_missing n (i + 1) (rw f at h) k) (dec_lt i k))
     where
       by_index : close i ≡ false → (i + 1 ≤ k → k < i + 1 + n → CloseIn edition d bs k → ⊥) → Dec (i < k) → ⊥
@@ -256,11 +256,11 @@ module _ (edition d : ℕ) (bs : List ℕ) where
       by_index f g (no b) = let s : k ≡ i = omega arith in not_close i f (rw s at c)
 
   -- the first close point of a packet is its first
-  point_first : (j : ℕ) → close_point edition d bs ≡ At j → FirstClose edition d bs j
+  point_first : (j : ℕ) → close_point edition d bs ≡ Some j → FirstClose edition d bs j
   point_first j h = let f = from_found (points_of bs).count 0 j h in record { close = f.1; before = λ k l. f.2 k (omega arith) l }
 
   -- where it has none, none is close
-  point_none : close_point edition d bs ≡ Missing → NoneClose edition d bs
+  point_none : close_point edition d bs ≡ None → NoneClose edition d bs
   point_none h i c = by_index (dec_lt i (points_of bs).count)
     where
       by_index : Dec (i < (points_of bs).count) → ⊥
@@ -291,19 +291,19 @@ module _ (edition d : ℕ) (bs : List ℕ) where
   no_forth [] h = tt
   no_forth (w ∷ ws) h = by_find (close_point edition d (frame_of bs w)) refl (no_forth ws) h
     where
-      by_find : (f : Found) → close_point edition d (frame_of bs w) ≡ f → (answer ws ≡ nobody → NobodyIn edition d bs ws)
+      by_find : (f : Option ℕ) → close_point edition d (frame_of bs w) ≡ f → (answer ws ≡ nobody → NobodyIn edition d bs ws)
           → or_later w.offset f (answer ws) ≡ nobody → NoneClose edition d (frame_of bs w) × NobodyIn edition d bs ws
-      by_find (At i) e go h = absurd (yes_is_no h)
-      by_find Missing e go h = (point_none edition d (frame_of bs w) e, go h)
+      by_find (Some i) e go h = absurd (yes_is_no h)
+      by_find None e go h = (point_none edition d (frame_of bs w) e, go h)
 
   -- a packet without a close point answers nothing
   passes : (w : Row) (later : Closeness) → NoneClose edition d (frame_of bs w)
       → or_later w.offset (close_point edition d (frame_of bs w)) later ≡ later
   passes w later n = by_find (close_point edition d (frame_of bs w)) refl
     where
-      by_find : (f : Found) → close_point edition d (frame_of bs w) ≡ f → or_later w.offset f later ≡ later
-      by_find (At i) e = absurd (n i (point_first edition d (frame_of bs w) i e).close)
-      by_find Missing e = refl
+      by_find : (f : Option ℕ) → close_point edition d (frame_of bs w) ≡ f → or_later w.offset f later ≡ later
+      by_find (Some i) e = absurd (n i (point_first edition d (frame_of bs w) i e).close)
+      by_find None e = refl
 
   no_back : (ws : List Row) → NobodyIn edition d bs ws → answer ws ≡ nobody
   unfolding first_in NobodyIn
@@ -315,10 +315,10 @@ module _ (edition d : ℕ) (bs : List ℕ) where
   yes_forth [] offset index h = absurd (yes_is_no (sym h))
   yes_forth (w ∷ ws) offset index h = by_find (close_point edition d (frame_of bs w)) refl (yes_forth ws offset index) h
     where
-      by_find : (f : Found) → close_point edition d (frame_of bs w) ≡ f
+      by_find : (f : Option ℕ) → close_point edition d (frame_of bs w) ≡ f
           → (answer ws ≡ close_at offset index → FirstCloseIn edition d bs ws offset index)
           → or_later w.offset f (answer ws) ≡ close_at offset index → FirstCloseIn edition d bs (w ∷ ws) offset index
-      by_find (At i) e go h =
+      by_find (Some i) e go h =
           let s : i ≡ index = ap (λ (c : Closeness). c.index) h in
           record {
             before = [];
@@ -329,7 +329,7 @@ module _ (edition d : ℕ) (bs : List ℕ) where
             place = ap (λ (c : Closeness). c.offset) h;
             first = rw s at (point_first edition d (frame_of bs w) i e);
           }
-      by_find Missing e go h = let g = go h in record {
+      by_find None e go h = let g = go h in record {
         before = w ∷ g.before;
         packet = g.packet;
         behind = g.behind;
@@ -344,9 +344,9 @@ module _ (edition d : ℕ) (bs : List ℕ) where
       → or_later w.offset (close_point edition d (frame_of bs w)) later ≡ close_at w.offset index
   answers_here w later index f = by_find (close_point edition d (frame_of bs w)) refl
     where
-      by_find : (g : Found) → close_point edition d (frame_of bs w) ≡ g → or_later w.offset g later ≡ close_at w.offset index
-      by_find (At i) e = ap (close_at w.offset) (first_once edition d (frame_of bs w) i index (point_first edition d (frame_of bs w) i e) f)
-      by_find Missing e = absurd (point_none edition d (frame_of bs w) e index f.close)
+      by_find : (g : Option ℕ) → close_point edition d (frame_of bs w) ≡ g → or_later w.offset g later ≡ close_at w.offset index
+      by_find (Some i) e = ap (close_at w.offset) (first_once edition d (frame_of bs w) i index (point_first edition d (frame_of bs w) i e) f)
+      by_find None e = absurd (point_none edition d (frame_of bs w) e index f.close)
 
   yes_behind : (before behind : List Row) (w : Row) (index : ℕ) → NobodyIn edition d bs before → FirstClose edition d (frame_of bs w) index
       → answer (before ++ w ∷ behind) ≡ close_at w.offset index

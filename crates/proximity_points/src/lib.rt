@@ -5,7 +5,7 @@ ghost use Rattle.std.specs.Prelude.{◌≡◌, ◌/◌, length};
 ghost use Rattle.proximity.specs.Internal.{bits_within, point_within, first_within};
 
 use coordinate_bounds::sign_last;
-use packet::{Found, POINT_SIZE};
+use packet::POINT_SIZE;
 
 // Whether a coordinate's bits, with the sign last, are at most the limit.
 fn is_within(bits: u32, limit: u32) -> bool
@@ -28,7 +28,7 @@ fn is_close(point: &[u8], limit: u32) -> bool
 
 // The index of the first of these points, 16 bytes each, whose X, Y and Z have bits, with the sign last, of at most the limit
 // (`coordinate_bounds::limit_of`). Each part is 16 bytes long, so that no number in it tests the length.
-pub fn first_close(points: &[u8], limit: u32) -> Found
+pub fn first_close(points: &[u8], limit: u32) -> Option<usize>
     ensures { result ≡ first_within limit points.now (length points.now / 16) 0 }
 {
     let count = points.len() / POINT_SIZE;
@@ -37,9 +37,9 @@ pub fn first_close(points: &[u8], limit: u32) -> Found
         let from = POINT_SIZE * i;
         let to = from + POINT_SIZE;
         if is_close(&points[from..to], limit) {
-            return Found::At(i);
+            return Some(i);
         }
         i = i + 1;
     }
-    Found::Missing
+    None
 }

@@ -11,30 +11,30 @@ returns-in_default c = record_refused _ _ _ (other_named _ _ c.dialect_named.ens
 
 pub returns-in_default-judge : goal.returns-in_default-judge
 returns-in_default-judge c =
-    record_refused _ _ _ (not_whole _ _ c.dialect_named.ensures c.in-Packets.is c.judge.ensures.answers
+    record_refused _ _ _ (not_whole _ _ c.dialect_named.ensures c.in-Some.is c.judge.ensures.answers
     c.in_default-judge.not-Whole) c.no_record-in_default-judge.ensures
 
 pub returns-then-found-kind : goal.returns-then-found-kind
 returns-then-found-kind c =
-    let o = other_kind _ _ c.dialect_named.ensures c.in-Packets.is c.judge.ensures.answers c.in-Whole.is
+    let o = other_kind _ _ c.dialect_named.ensures c.in-Some.is c.judge.ensures.answers c.in-Whole.is
     c.if-found-kind.true in
     record_refused _ _ _ o c.no_record-then-found-kind.ensures
 
 pub returns-then-length-packet : goal.returns-then-length-packet
 returns-then-length-packet c =
-    let o = other_length _ _ c.dialect_named.ensures c.in-Packets.is c.judge.ensures.answers c.in-Whole.is
+    let o = other_length _ _ c.dialect_named.ensures c.in-Some.is c.judge.ensures.answers c.in-Whole.is
     c.if-found-kind.false
     c.if-length-packet.true in
     record_refused _ _ _ o c.no_record-then-length-packet.ensures
 
 pub read_record-requires : goal.read_record-requires
 read_record-requires c =
-    walks _ _ (one_packet _ _ c.dialect_named.ensures c.in-Packets.is c.judge.ensures.answers c.in-Whole.is
+    walks _ _ (one_packet _ _ c.dialect_named.ensures c.in-Some.is c.judge.ensures.answers c.in-Whole.is
     c.if-found-kind.false c.if-length-packet.false)
 
 pub returns : goal.returns
 returns c =
-    let o = one_packet _ _ c.dialect_named.ensures c.in-Packets.is c.judge.ensures.answers c.in-Whole.is
+    let o = one_packet _ _ c.dialect_named.ensures c.in-Some.is c.judge.ensures.answers c.in-Whole.is
     c.if-found-kind.false
     c.if-length-packet.false in
     record_read_lem _ _ _ o c.read_record.ensures

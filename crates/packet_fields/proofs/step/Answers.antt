@@ -11,30 +11,30 @@ returns-in_default c = step_refused _ _ _ (other_named _ _ c.dialect_named.ensur
 
 pub returns-in_default-judge : goal.returns-in_default-judge
 returns-in_default-judge c =
-    step_refused _ _ _ (not_whole _ _ c.dialect_named.ensures c.in-Packets.is c.judge.ensures.answers c.in_default-judge.not-Whole)
+    step_refused _ _ _ (not_whole _ _ c.dialect_named.ensures c.in-Some.is c.judge.ensures.answers c.in_default-judge.not-Whole)
     c.no_step-in_default-judge.ensures
 
 pub returns-then-found-kind : goal.returns-then-found-kind
 returns-then-found-kind c =
-    let o = other_kind _ _ c.dialect_named.ensures c.in-Packets.is c.judge.ensures.answers c.in-Whole.is
+    let o = other_kind _ _ c.dialect_named.ensures c.in-Some.is c.judge.ensures.answers c.in-Whole.is
     c.if-found-kind.true in
     step_refused _ _ _ o c.no_step-then-found-kind.ensures
 
 pub returns-then-length-packet : goal.returns-then-length-packet
 returns-then-length-packet c =
-    let o = other_length _ _ c.dialect_named.ensures c.in-Packets.is c.judge.ensures.answers c.in-Whole.is
+    let o = other_length _ _ c.dialect_named.ensures c.in-Some.is c.judge.ensures.answers c.in-Whole.is
     c.if-found-kind.false
     c.if-length-packet.true in
     step_refused _ _ _ o c.no_step-then-length-packet.ensures
 
 pub read_step-requires : goal.read_step-requires
 read_step-requires c =
-    walks _ _ (one_packet _ _ c.dialect_named.ensures c.in-Packets.is c.judge.ensures.answers c.in-Whole.is
+    walks _ _ (one_packet _ _ c.dialect_named.ensures c.in-Some.is c.judge.ensures.answers c.in-Whole.is
     c.if-found-kind.false c.if-length-packet.false)
 
 pub returns : goal.returns
 returns c =
-    let o = one_packet _ _ c.dialect_named.ensures c.in-Packets.is c.judge.ensures.answers c.in-Whole.is
+    let o = one_packet _ _ c.dialect_named.ensures c.in-Some.is c.judge.ensures.answers c.in-Whole.is
     c.if-found-kind.false
     c.if-length-packet.false in
     step_read_lem _ _ _ o c.read_step.ensures
