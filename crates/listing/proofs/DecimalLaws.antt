@@ -1,15 +1,5 @@
 -- Decimal numbers: how many bytes they take, that the last digit may be stored first, and that the digits read back as the number.
-use mathlib.Core.Bool.{Bool, true, false, cond}
-use mathlib.Core.Path.{◌≡◌, refl, sym, ap, ◌∙◌}
-use mathlib.Core.List.{List, [], ◌∷◌, ◌++◌}
-use Prim.Native.Nat.{ℕ, zero, suc, ◌+◌, ◌-◌, ◌*◌, ◌/◌, ◌%◌, ◌^◌, ◌≤◌, ◌<◌}
-use native.Mathlib.Omega.{arith}
-use native.Mathlib.Numerals.{add-one}
-use native.Mathlib.Nat.{mul_comm}
-use borrow.Author.Tests.{ltb-true, ltb-false}
-use lib.Dec.{ltb}
-use lib.ListN.{length, set, length-append}
-use lib.Pow.{pow-add}
+use Rattle.std.proofs.Common.{◌≡◌, ℕ, zero, suc, ◌+◌, ◌-◌, ◌*◌, ◌/◌, ◌%◌, ◌^◌, ◌<◌, ◌≤◌, Bool, true, false, cond, ltb, List, [], ◌∷◌, ◌++◌, length, set, sym, refl, ap, ◌∙◌, mul_comm, add-one, arith, length-append, pow-add, ltb-false, ltb-true}
 use Rattle.digits.specs.Stores.{stored}
 use Rattle.digits.proofs.StoreLaws.{stored_append, set_behind}
 use Rattle.listing.specs.Decimal.{decimals, width, decimal, figure, tens_from, Fewest}

@@ -1,5 +1,5 @@
 -- The worked example of paper 01, by computing the listing.
-use mathlib.Core.Path.{◌≡◌, refl}
+use Rattle.std.proofs.Common.{◌≡◌, refl}
 use Rattle.digits.specs.Hex.{digit}
 use Rattle.form.specs.Form.{judge, ◌>>=◌}
 use Rattle.sirad.specs.Rows.{characters}

@@ -1,26 +1,19 @@
 -- Input gathered block by block: each block lies behind what was gathered before.
-use mathlib.Core.Bool.{Bool, true, false}
-use mathlib.Core.Path.{◌≡◌, refl, sym, ap, ◌∙◌}
-use mathlib.Core.List.{List, [], ◌++◌}
-use Prim.Native.Nat.{ℕ, ◌+◌, ◌-◌, ◌<◌, ◌≤◌}
-use native.Mathlib.Nat.{zero-add}
-use native.Mathlib.Omega.{arith}
-use lib.ListN.{length, take, length-append}
-use lib.Seq.{length-take-le}
+use Rattle.std.proofs.Common.{◌≡◌, ℕ, ◌+◌, ◌-◌, ◌<◌, ◌≤◌, Bool, true, false, List, [], ◌++◌, length, take, sym, refl, ap, ◌∙◌, zero-add, arith, length-append, length-take-le}
 use Rattle.io.specs.Counts.{IsPrefixLen}
 use Rattle.digits.specs.Stores.{stored}
 use Rattle.digits.proofs.StoreLaws.{stored_nil, length_stored, then}
 use Rattle.listing.specs.Gather.{Gathers, Lent, input_answer}
 use Rattle.listing.specs.Internal.{Puts, Appends, Within}
-use Rattle.listing.specs.declared.Input.{Input}
-use Rattle.listing.specs.declared.Input.TheVariants.{Read, Failed}
+use Rattle.std.specs.declared.option.Option.{Option}
+use Rattle.std.specs.declared.option.Option.TheVariants.{Some, None}
 
 -- a block that keeps its length
 pub lent : {block after : List ℕ} → length after ≡ length block → Lent block after
 lent {block} {after} e = record { held = after; leaves = refl; same_length = e }
 
 -- a read gives no more bytes than the block holds
-pub read_within : {r : Input} {n : ℕ} (block : List ℕ) → Within r block → r ≡ Read n → n ≤ length block
+pub read_within : {r : Option ℕ} {n : ℕ} (block : List ℕ) → Within r block → r ≡ Some n → n ≤ length block
 read_within block w e = rw e at w
 
 -- -- The loop
@@ -61,11 +54,11 @@ appends {buffer} {block} {after} {size} {got} {n} {end} p l g r s f =
 
 module _ {block block' buffer after : List ℕ} {size : ℕ} (g : Gathered buffer size after) (e : length block' ≡ length block) where
   -- the input ends, or the buffer is full
-  pub gathers_all : 0 < length block → Gathers block buffer (Read size) block' after
+  pub gathers_all : 0 < length block → Gathers block buffer (Some size) block' after
   gathers_all h = record {
     input = g.input;
     readable = true;
-    answers = ap Read g.counted;
+    answers = ap Some g.counted;
     fits = g.fits;
     leaves = g.leaves;
     blocked = λ _. h;
@@ -73,7 +66,7 @@ module _ {block block' buffer after : List ℕ} {size : ℕ} (g : Gathered buffe
   }
 
   -- a read failed
-  pub gathers_failed : Gathers block buffer Failed block' after
+  pub gathers_failed : Gathers block buffer None block' after
   gathers_failed = record {
     input = g.input;
     readable = false;
@@ -88,14 +81,14 @@ module _ {block block' buffer after : List ℕ} {size : ℕ} (g : Gathered buffe
       distinct x = let z : ◌≡◌ {A = ℕ} 0 1 = cc in omega arith
 
 -- the bytes read are bytes of the buffer
-pub read_counts : {block block' buffer after : List ℕ} {r : Input} {size : ℕ} → Gathers block buffer r block' after
-    → r ≡ Read size → IsPrefixLen size after
+pub read_counts : {block block' buffer after : List ℕ} {r : Option ℕ} {size : ℕ} → Gathers block buffer r block' after
+    → r ≡ Some size → IsPrefixLen size after
 read_counts {block} {block'} {buffer} {after} {r} {size} g h =
     let n : length after ≡ length buffer = ap length g.leaves ∙ length_stored buffer 0 g.input in
     let m : size ≡ length g.input = counted g.readable (sym h ∙ g.answers) in
     let k : size ≤ length after = omega (arith, g.fits) in
     (k, sym (length-take-le size after k))
   where
-    counted : (t : Bool) → Read size ≡ input_answer t g.input → size ≡ length g.input
+    counted : (t : Bool) → Some size ≡ input_answer t g.input → size ≡ length g.input
     counted true e = cc
     counted false e = let z : ◌≡◌ {A = ℕ} 0 1 = cc in absurd (omega arith)

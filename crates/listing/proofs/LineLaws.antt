@@ -1,12 +1,5 @@
 -- The lines of a listing: how long they are, the turns of the loop over the rows, and the rows in the table.
-use mathlib.Core.Path.{◌≡◌, refl, sym, ap, ◌∙◌}
-use mathlib.Core.List.{List, [], ◌∷◌, ◌++◌}
-use Prim.Native.Nat.{ℕ, zero, suc, ◌+◌, ◌-◌, ◌*◌, ◌≤◌, ◌<◌}
-use native.Mathlib.Nat.{add-zero}
-use native.Mathlib.Omega.{arith}
-use borrow.Author.Tests.{lt-ltb, le-ltb}
-use lib.ListN.{length, drop, get_or, length-append}
-use lib.Seq.{drop-drop, get_or-drop}
+use Rattle.std.proofs.Common.{◌≡◌, ℕ, zero, suc, ◌+◌, ◌-◌, ◌*◌, ◌<◌, ◌≤◌, List, [], ◌∷◌, ◌++◌, length, get_or, drop, sym, refl, ap, ◌∙◌, add-zero, arith, length-append, get_or-drop, drop-drop, le-ltb, lt-ltb}
 use Rattle.digits.specs.Stores.{stored}
 use Rattle.digits.proofs.StoreLaws.{stored_nil, stored_append}
 use Rattle.reading.specs.Reading.{flat}

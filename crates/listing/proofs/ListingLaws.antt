@@ -1,15 +1,11 @@
 -- What is put for a table that the closed reading filled is the listing, and it fits.
-use mathlib.Core.Bool.{true, cond}
-use mathlib.Core.Path.{◌≡◌, refl, sym, ap, ◌∙◌}
-use mathlib.Core.List.{List, [], ◌∷◌, ◌++◌}
-use Prim.Native.Nat.{ℕ, ◌*◌, ◌≤◌, ◌<◌}
-use native.Mathlib.Omega.{arith}
-use native.Mathlib.Nat.{zero-add}
+use Rattle.std.proofs.Common.{◌≡◌, ℕ, ◌*◌, ◌<◌, ◌≤◌, true, cond, ltb, List, [], ◌∷◌, ◌++◌, length, drop, IsOk, sym, refl, ap, ◌∙◌, zero-add, arith, length-append, le-ltb, lt-ltb, le-leb}
 use native.Mathlib.Decide.{dec_lt}
-use borrow.Author.Tests.{lt-ltb, le-ltb, le-leb}
-use lib.Dec.{ltb}
-use lib.ListN.{length, drop, length-append}
-use Rattle.digits.specs.Stores.{stored, stored_within, Writes}
+use Rattle.std.specs.declared.result.Result.{Result}
+use Rattle.std.specs.declared.result.Result.TheVariants.{Ok, Err}
+use Rattle.refusals.specs.declared.Refusal.{Refusal}
+use Rattle.refusals.proofs.NumberLaws.{number_ne0}
+use Rattle.digits.specs.Stores.{stored, stored_within, written_of, Writes}
 use Rattle.digits.specs.declared.Written.{Written}
 use Rattle.digits.proofs.StoreLaws.{length_stored, within_fits, short, done}
 use Rattle.reading.specs.Answers.{answered, room_in}
@@ -137,6 +133,13 @@ writes_puts {text} {out} {after} {r} w h = record {
   leaves = w.leaves ∙ rw (le-leb (length text) (length out) h);
   ends = ap (λ (a : Written). a.size) w.answers ∙ rw (le-leb (length text) (length out) h, zero-add);
 }
+
+-- and it is no refusal
+pub writes_ok : {text out after : List ℕ} (r : Result ℕ Refusal) → Writes 0 text out (written_of r) after → length text ≤ length out
+    → IsOk r
+writes_ok (Ok n) w h = refl
+writes_ok {text} {out} (Err e) w h =
+    absurd (number_ne0 e (ap (λ (a : Written). a.refusal) w.answers ∙ rw (le-leb (length text) (length out) h) refl))
 
 -- a listing that was put ends within the buffer for it
 pub listing_ends : (d : Dialect) (bs : List ℕ) {out after : List ℕ} {end : ℕ} → Puts (listing d bs) out 0 end after → text_room ≡ length out

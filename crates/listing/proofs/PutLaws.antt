@@ -1,11 +1,6 @@
 -- Text that is put piece by piece is the text put at once: each piece goes behind the one before.
-use mathlib.Core.Path.{◌≡◌, refl, sym, ap, ◌∙◌}
-use mathlib.Core.List.{List, [], ◌∷◌, ◌++◌}
-use Prim.Native.Nat.{ℕ, ◌+◌, ◌≤◌, ◌<◌}
-use native.Mathlib.Omega.{arith}
-use borrow.Author.Tests.{le-leb, lt-leb}
-use lib.ListN.{length, take, set, length-append}
-use lib.Seq.{length-take-le}
+use Rattle.std.proofs.Common.{◌≡◌, ℕ, ◌+◌, ◌<◌, ◌≤◌, List, [], ◌∷◌, ◌++◌, length, take, set, sym, refl, ap, ◌∙◌, arith, length-append, length-take-le, le-leb}
+use borrow.Author.Tests.{lt-leb}
 use Rattle.digits.specs.Stores.{stored_within}
 use Rattle.digits.proofs.StoreLaws.{stored_one, length_stored, then, within_fits, within_unfit}
 use Rattle.listing.specs.Internal.{Puts, Lays}

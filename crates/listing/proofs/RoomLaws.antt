@@ -1,11 +1,6 @@
 -- The table of a listing has room for every row: no frame is shorter than 8 bytes, so n bytes hold at most n / 8 frames,
 -- and a reading that has room for its rows does not depend on how much.
-use mathlib.Core.Bool.{Bool, true}
-use mathlib.Core.Path.{◌≡◌, refl, sym, ap, ◌∙◌}
-use mathlib.Core.List.{List, [], ◌∷◌}
-use Prim.Native.Nat.{ℕ, zero, suc, ◌+◌, ◌-◌, ◌*◌, ◌≤◌}
-use native.Mathlib.Omega.{arith}
-use lib.ListN.{length, drop}
+use Rattle.std.proofs.Common.{◌≡◌, ℕ, zero, suc, ◌+◌, ◌-◌, ◌*◌, ◌≤◌, Bool, true, List, [], ◌∷◌, length, drop, sym, refl, ap, ◌∙◌, arith}
 use Rattle.digits.specs.Hex.{hex_at}
 use Rattle.form.specs.Form.{judge}
 use Rattle.form.specs.declared.Judgement.{Judgement}

@@ -3,8 +3,8 @@ use Rattle.std.specs.Prelude.{cond, ◌≡◌, List, [], ◌++◌, ℕ, zero, su
 use Rattle.digits.specs.Stores.{stored, stored_within}
 use Rattle.reading.specs.declared.Row.{Row}
 use Rattle.listing.specs.Lines.{header_line, row_line, end_line}
-use Rattle.listing.specs.declared.Input.{Input}
-use Rattle.listing.specs.declared.Input.TheVariants.{Read, Failed}
+use Rattle.std.specs.declared.option.Option.{Option}
+use Rattle.std.specs.declared.option.Option.TheVariants.{Some, None}
 
 -- -- Buffers
 
@@ -50,9 +50,9 @@ held_text rows table size skipped = table_text (held_rows rows table) table size
 -- -- Standard input
 
 -- the bytes that a read gave are no more than the block's
-abbrev pub Within : Input → List ℕ → Type 0
-Within (Read n) block = n ≤ length block
-Within Failed block = Unit {0}
+abbrev pub Within : Option ℕ → List ℕ → Type 0
+Within (Some n) block = n ≤ length block
+Within None block = Unit {0}
 
 -- the first bytes of a block, at most `got`, lie behind the `size` bytes gathered; some do, if there are any and there is room
 pub record Appends (buffer : List ℕ) (size : ℕ) (block : List ℕ) (got end : ℕ) (after : List ℕ) : Type 0 where

@@ -1,7 +1,5 @@
 -- An input whose bytes are known, gathered block by block: what lies in the buffer is what the input begins with.
-use Rattle.std.proofs.Common.{◌≡◌, ℕ, ◌+◌, ◌-◌, ◌<◌, ◌≤◌, List, ◌++◌, length, take, drop, None, Some, IfSome}
-use Rattle.std.proofs.Common.{refl, sym, ap, ◌∙◌, subst, arith}
-use Rattle.std.proofs.Common.{append_assoc, length-append, length-take-le, take-append-drop, take-take, take_at}
+use Rattle.std.proofs.Common.{◌≡◌, ℕ, ◌+◌, ◌-◌, ◌<◌, ◌≤◌, List, ◌++◌, length, take, drop, IfSome, Some, None, sym, refl, ap, ◌∙◌, subst, append_assoc, arith, length-append, take-append-drop, length-take-le, take-take, take_at}
 use Rattle.std.specs.declared.option.Option.{Option}
 use Rattle.std.specs.Io.KnownBytes.{Consumes}
 use Rattle.std.proofs.KnownBytes.{Consumes-trans}
@@ -9,11 +7,11 @@ use Rattle.digits.specs.Stores.{stored}
 use Rattle.digits.proofs.StoreLaws.{stored_parts}
 use Rattle.listing.specs.Gather.{Gathers}
 use Rattle.listing.specs.Internal.{Puts}
-use Rattle.listing.specs.declared.Input.TheVariants.{Failed}
+use Rattle.std.specs.declared.option.Option.TheVariants.{None}
 use Rattle.listing.proofs.GatherLaws.{gathered_none, gathers_failed}
 
 -- no read can succeed with an empty block: nothing is read
-pub gathers_none : (block buffer : List ℕ) → Gathers block buffer Failed block buffer
+pub gathers_none : (block buffer : List ℕ) → Gathers block buffer None block buffer
 gathers_none block buffer = gathers_failed (gathered_none buffer) refl
 
 -- bytes stored behind the first size bytes of a buffer come behind them

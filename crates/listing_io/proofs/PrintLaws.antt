@@ -1,12 +1,10 @@
 -- A text that is written part by part, and a listing of the bytes gathered: what is known of the output.
-use Rattle.std.proofs.Common.{◌≡◌, ℕ, ◌+◌, ◌-◌, ◌≤◌, List, [], ◌++◌, length, take, drop, None, Some, IfSome}
-use Rattle.std.proofs.Common.{refl, sym, ap, ◌∙◌, subst, arith, length-take-le, take-take, take_at, take_all}
+use Rattle.std.proofs.Common.{◌≡◌, ℕ, ◌+◌, ◌-◌, ◌≤◌, List, [], ◌++◌, length, take, drop, IfSome, Some, None, sym, refl, ap, ◌∙◌, subst, arith, length-take-le, take_all, take-take, take_at, lt-ltb}
 use Rattle.std.proofs.Math.Seq.{take-add}
 use Rattle.std.specs.declared.option.Option.{Option}
 use Rattle.std.specs.Io.KnownBytes.{Keeps, Appends}
 use Rattle.std.proofs.KnownBytes.{Appends-nil, Appends-trans, Appends-kept}
 use native.Mathlib.Decide.{dec_le}
-use borrow.Author.Tests.{lt-ltb}
 use Rattle.digits.proofs.StoreLaws.{stored_start}
 use Rattle.capture.specs.declared.Dialect.{Dialect}
 use Rattle.listing.specs.Internal.{Puts}

@@ -9,7 +9,6 @@ ghost use Rattle.listing.specs.Internal.{Puts, text_room};
 ghost use Rattle.listing_io.specs.Known.{Grows, Leaves, Lists, ListsFirst};
 
 use capture::Dialect;
-use listing::Input;
 use listing_gather::{MOST_TRIES, gather};
 use listing_text::write_listing;
 use std::io::{ErrorKind, Read, Write};
@@ -47,8 +46,7 @@ fn put_listing(bytes: &[u8], out: &mut [u8], d: Dialect) -> usize
     requires { text_room ≤ length out.old }
     ensures { Puts (listing d bytes.now) out.old 0 result out.new }
 {
-    let written = write_listing(bytes, out, d);
-    written.size
+    write_listing(bytes, out, d).unwrap()
 }
 
 // One write, tried again where a signal interrupts it; answers how many of the first bytes were taken, 0 where it fails.
@@ -56,8 +54,7 @@ fn write_part<W: Write>(writer: &mut W, text: &[u8]) -> usize
     ensures within { result ≤ length text.now }
     ensures writes { Appends (W.contents writer.old) (W.contents writer.new) (take result text.now) }
 {
-    let mut tries: u32 = 0;
-    while tries < MOST_TRIES {
+    for _ in 0..MOST_TRIES {
         match writer.write(text) {
             Ok(taken) => return taken,
             Err(e) => {
@@ -66,7 +63,6 @@ fn write_part<W: Write>(writer: &mut W, text: &[u8]) -> usize
                 }
             }
         }
-        tries = tries + 1;
     }
     0
 }
@@ -75,13 +71,13 @@ fn write_part<W: Write>(writer: &mut W, text: &[u8]) -> usize
 fn write_whole<W: Write>(writer: &mut W, text: &[u8]) -> bool
     ensures { Grows (W.contents writer.old) (W.contents writer.new) result text.now }
 {
-    let mut at: usize = 0;
+    let mut at = 0;
     while at < text.len() {
         let taken = write_part(writer, &text[at..]);
         if taken == 0 {
             return false;
         }
-        at = at + taken;
+        at += taken;
     }
     true
 }
@@ -107,8 +103,7 @@ pub fn print_listing<R: Read, W: Write>(
 {
     let mut buffer = input_buffer();
     let mut text = text_buffer();
-    let gathered = gather(input, block, &mut buffer);
-    let Input::Read(size) = gathered else {
+    let Some(size) = gather(input, block, &mut buffer) else {
         return Err(Fault::Unread);
     };
     let end = put_listing(&buffer[..size], &mut text, d);

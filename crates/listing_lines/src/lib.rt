@@ -75,12 +75,10 @@ fn put_decimal(out: &mut [u8], at: usize, v: u32) -> usize
     ensures { Puts (decimal v) out.old at result out.new }
 {
     let n = width_of(v);
-    let mut left = n;
     let mut rest = v;
-    while 0 < left {
-        left = left - 1;
-        out[at + left] = 48 + (rest % 10) as u8;
-        rest = rest / 10;
+    for left in (0..n).rev() {
+        out[at + left] = b'0' + (rest % 10) as u8;
+        rest /= 10;
     }
     at + n
 }

@@ -2,15 +2,12 @@
 #![tactic(auto)]
 
 ghost use Rattle.std.specs.Prelude.{◌≡◌, ◌+◌, ◌*◌, ◌≤◌, ◌<◌, length, drop};
-ghost use Rattle.digits.specs.Stores.{Writes};
+ghost use Rattle.digits.specs.Stores.{Writes, written_of};
 ghost use Rattle.listing.specs.Lines.{letter, header_line, row_line, end_line};
 ghost use Rattle.listing.specs.Internal.{Puts, table_lines, table_text, first_of, held_rows, held_text};
 
-use digits::Written;
 use listing_lines::{fields_size, put_line};
-
-// The refusal of the listing (paper 01, "Refusal numbers").
-pub const OUTPUT_TOO_SHORT: u32 = 51;
+use refusals::Refusal;
 
 // The most rows that are listed.
 const MAX_ROWS: usize = 8192;
@@ -29,13 +26,9 @@ fn rows_size(table: &[u32], rows: usize) -> usize
     requires rows_in_bounds { 3 * rows ≤ length table.now }
     ensures { result ≡ length (table_lines rows table.now) }
 {
-    let mut size: usize = 0;
-    let mut i: usize = 0;
-    while i < rows {
-        let index = 3 * i;
-        let more = row_size(table, index);
-        size = size + more;
-        i = i + 1;
+    let mut size = 0;
+    for i in 0..rows {
+        size += row_size(table, 3 * i);
     }
     size
 }
@@ -84,11 +77,8 @@ fn put_rows(out: &mut [u8], from: usize, table: &[u32], rows: usize) -> usize
     ensures { Puts (table_lines rows table.now) out.old from result out.new }
 {
     let mut at = from;
-    let mut i: usize = 0;
-    while i < rows {
-        let index = 3 * i;
-        at = put_row(out, at, table, index);
-        i = i + 1;
+    for i in 0..rows {
+        at = put_row(out, at, table, 3 * i);
     }
     at
 }
@@ -134,28 +124,21 @@ fn held_rows(table: &[u32], rows: usize) -> usize
 }
 
 // Writes the text of rows that the table holds: it is measured first, since a refusal writes nothing.
-fn write_rows(out: &mut [u8], table: &[u32], rows: usize, size: u32, skipped: u32) -> Written
+fn write_rows(out: &mut [u8], table: &[u32], rows: usize, size: u32, skipped: u32) -> Result<usize, Refusal>
     requires rows_bound { rows ≤ 8192 }
     requires rows_in_bounds { 3 * rows ≤ length table.now }
-    ensures { Writes 0 (table_text rows table.now size skipped) out.old result out.new }
+    ensures { Writes 0 (table_text rows table.now size skipped) out.old (written_of result) out.new }
 {
     if out.len() < text_size(table, rows, size, skipped) {
-        return Written {
-            refusal: OUTPUT_TOO_SHORT,
-            size: 0,
-        };
+        return Err(Refusal::OutputTooShort);
     }
-    let end = put_all(out, table, rows, size, skipped);
-    Written {
-        refusal: 0,
-        size: end,
-    }
+    Ok(put_all(out, table, rows, size, skipped))
 }
 
 // Writes the text of the first rows of a table, three numbers each, with the size of the input and its skipped bytes on the last line.
 // Of more rows than the table holds, or than 8,192, it writes none.
-pub fn write_table(out: &mut [u8], table: &[u32], rows: usize, size: u32, skipped: u32) -> Written
-    ensures { Writes 0 (held_text rows table.now size skipped) out.old result out.new }
+pub fn write_table(out: &mut [u8], table: &[u32], rows: usize, size: u32, skipped: u32) -> Result<usize, Refusal>
+    ensures { Writes 0 (held_text rows table.now size skipped) out.old (written_of result) out.new }
 {
     let held = held_rows(table, rows);
     write_rows(out, table, held, size, skipped)

@@ -6,8 +6,8 @@ use Rattle.listing_gather.proofs.append.Goals as goal
 
 pub returns-clause-appends : goal.returns-clause-appends
 returns-clause-appends c =
-    let a = c.args in let n = c.least-n.result in let e = c.least-n.ensures.least in
-    let fits : n ≤ length a.block.now = omega arith in
-    let room : a.size + n ≤ length a.buffer.now = omega arith in
+    let a = c.args in let n = c.min-n.result in
+    let fits : n ≤ length a.block.now = omega (arith, c.min-n.ensures) in
+    let room : a.size + n ≤ length a.buffer.now = omega (arith, c.min-n.ensures) in
     let puts = puts_taken a.block.now a.buffer.now _ a.size n c.put_bytes.ensures fits room in
-    appends puts fits e.0 e.1 c.requires.size_in_bounds e.2
+    appends puts fits (omega (arith, c.min-n.ensures)) (omega (arith, c.min-n.ensures)) c.requires.size_in_bounds (λ h k. omega (arith, c.min-n.ensures))

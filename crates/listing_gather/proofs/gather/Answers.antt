@@ -10,10 +10,10 @@ loop-size-init g c = (omega arith, refl, omega arith, gathered_none _, front_non
 
 pub loop-size-preserved : goal.loop-size-preserved
 loop-size-preserved g c =
-    let v = c.loop-size.invariant in let e = c.append-size.ensures.appends in let r = c.read_block-input.ensures in
+    let v = c.loop-size.invariant in let e = c.append-size.ensures.appends in let r = c.read_block.ensures in
     let more = gathered_more v.3 e.puts (omega (arith, e.within)) in
     let same = puts_length e.puts in
-    let w = c.in-Read.ensures in
+    let w = c.in_ok-got.ensures in
     let grows = e.grows (omega arith) (omega arith) in
     let all = c.append-size.ensures.all in
     let front =

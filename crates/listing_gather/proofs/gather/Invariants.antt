@@ -1,5 +1,5 @@
 -- What was gathered so far is some input; each turn gathers a byte at least.
-use Rattle.std.proofs.Common.{◌≡◌, ◌≤◌, ◌-◌, length}
+use Rattle.std.proofs.Common.{◌≡◌, ◌-◌, ◌≤◌, length}
 use Rattle.listing.proofs.GatherLaws.{Gathered}
 use Rattle.listing_gather.proofs.KnownLaws.{Front}
 use Rattle.listing_gather.proofs.gather.Given as goal

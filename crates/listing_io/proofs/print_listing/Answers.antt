@@ -12,16 +12,16 @@ slice_bounds-write_whole-end g c = sym (length-take-le _ _ (listing_ends _ _ c.p
 
 pub returns-then-printed-clause-lists : goal.returns-then-printed-clause-lists
 returns-then-printed-clause-lists g c =
-    let room : 65537 ≡ length c.gather-gathered.new.buffer = omega arith in
-    let same = listing_gathered c.args.d _ c.gather-gathered.new.buffer c.in-Read.size c.in-Read.ensures.holds room in
+    let room : 65537 ≡ length c.gather.new.buffer = omega arith in
+    let same = listing_gathered c.args.d _ c.gather.new.buffer c.in-Some.size c.in-Some.ensures.holds room in
     let put = c.put_listing-end in
     let text = put_front put.ensures (listing_ends _ _ put.ensures (omega arith)) in
     lists_whole c.args.d _ _ _ _ _ same text c.if-printed.ensures
 
 pub returns-clause-lists : goal.returns-clause-lists
 returns-clause-lists g c =
-    let room : 65537 ≡ length c.gather-gathered.new.buffer = omega arith in
-    let same = listing_gathered c.args.d _ c.gather-gathered.new.buffer c.in-Read.size c.in-Read.ensures.holds room in
+    let room : 65537 ≡ length c.gather.new.buffer = omega arith in
+    let same = listing_gathered c.args.d _ c.gather.new.buffer c.in-Some.size c.in-Some.ensures.holds room in
     let put = c.put_listing-end in
     let text = put_front put.ensures (listing_ends _ _ put.ensures (omega arith)) in
     let part = c.if-printed.ensures in

@@ -1,5 +1,5 @@
 -- Each turn writes a byte at least, behind those that are written.
-use Rattle.std.proofs.Common.{◌≤◌, ◌-◌, length, take}
+use Rattle.std.proofs.Common.{◌-◌, ◌≤◌, length, take}
 use Rattle.std.specs.Io.KnownBytes.{Appends}
 use Rattle.listing_io.proofs.write_whole.Given as goal
 

@@ -1,5 +1,5 @@
 -- `listing_lines::fields_size` meets its contract: two tabs, two widths, a line feed.
-use native.Mathlib.Omega.{arith}
+use Rattle.std.proofs.Common.{arith}
 use Rattle.listing.proofs.LineLaws.{length_fields}
 use Rattle.listing.proofs.DecimalLaws.{width_most}
 use Rattle.listing_lines.proofs.fields_size.Goals as goal

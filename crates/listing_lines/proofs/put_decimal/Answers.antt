@@ -1,29 +1,21 @@
--- `listing_lines::put_decimal` meets its contract. The loop keeps that storing the digits that are left completes the number.
-use mathlib.Core.Path.{refl, ap, sym, ◌∙◌}
-use Prim.Native.Nat.{ℕ}
-use lib.ListN.{length-set}
-use Rattle.listing.specs.Decimal.{decimals, decimal}
-use native.Mathlib.Omega.{arith}
+-- `listing_lines::put_decimal` meets its contract: the last digit first, then those before it.
+use Rattle.std.proofs.Common.{ℕ, sym, ap, ◌∙◌, arith}
 use Rattle.digits.specs.Stores.{stored}
+use Rattle.listing.specs.Decimal.{decimals, decimal}
 use Rattle.listing.proofs.DecimalLaws.{digit_step, digits_over, length_decimal}
 use Rattle.listing_lines.proofs.put_decimal.Goals as goal
 
 pub loop-left-init : goal.loop-left-init
 unfolding decimal
 loop-left-init c =
-    let a = c.args in (
-      omega arith,
-      c.width_of-n.ensures ∙ sym (length_decimal a.v),
-      refl,
-      ap (λ (n : ℕ). stored a.out.now a.at (decimals n a.v)) c.width_of-n.ensures,
-    )
+    let a = c.args in let n = c.width_of-n.ensures in
+    (n ∙ sym (length_decimal a.v), ap (λ (n : ℕ). stored a.out.now a.at (decimals n a.v)) n)
 
 pub loop-left-preserved : goal.loop-left-preserved
 loop-left-preserved c =
-    let l = c.loop-left in let a = c.args in
-    (omega arith, l.invariant.1, simp length-set l.invariant.2, digit_step l.out a.at l.left l.rest (omega arith) ∙ l.invariant.3)
+    let l = c.loop-left in (l.invariant.0, digit_step l.out c.args.at l.left l.rest (omega arith) ∙ l.invariant.1)
 
 pub returns : goal.returns
 returns c =
     let l = c.loop-left in let a = c.args in
-    digits_over l.out a.out.now a.at _ l.left l.rest a.v (omega arith) c.width_of-n.ensures l.invariant.3
+    digits_over l.out a.out.now a.at _ l.left l.rest a.v (omega arith) c.width_of-n.ensures l.invariant.1

@@ -1,5 +1,5 @@
 -- `listing_lines::put_field` meets its contract: a tab, then the number.
-use native.Mathlib.Omega.{arith}
+use Rattle.std.proofs.Common.{arith}
 use Rattle.listing.proofs.DecimalLaws.{length_decimal}
 use Rattle.listing.proofs.LineLaws.{length_field}
 use Rattle.listing.specs.Lines.{field}

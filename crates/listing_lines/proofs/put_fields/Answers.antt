@@ -1,5 +1,5 @@
 -- `listing_lines::put_fields` meets its contract: two fields and the end of the line.
-use native.Mathlib.Omega.{arith}
+use Rattle.std.proofs.Common.{arith}
 use Rattle.listing.specs.Lines.{fields}
 use Rattle.listing.proofs.LineLaws.{length_field, length_fields}
 use Rattle.listing.proofs.PutLaws.{puts_then, puts_length}

@@ -1,5 +1,5 @@
 -- `listing_lines::put_line` meets its contract: the line fits, or nothing changes.
-use native.Mathlib.Omega.{arith}
+use Rattle.std.proofs.Common.{arith}
 use Rattle.listing.proofs.LineLaws.{line_unfit, line_fits}
 use Rattle.listing.proofs.PutLaws.{puts_length}
 use Rattle.listing_lines.proofs.put_line.Goals as goal

@@ -1,5 +1,5 @@
 -- `listing_lines::put_text` meets its contract: the text fits, so it is stored.
-use native.Mathlib.Omega.{arith}
+use Rattle.std.proofs.Common.{arith}
 use Rattle.listing.proofs.PutLaws.{puts_within}
 use Rattle.listing_lines.proofs.put_text.Goals as goal
 

@@ -1,6 +1,5 @@
 -- `listing_lines::width_of` meets its contract: the tests of the code are those of the definition.
-use borrow.Author.Rules.{rules}
-use borrow.Author.Tests.{lt-ltb, le-ltb}
+use Rattle.std.proofs.Common.{rules, le-ltb, lt-ltb}
 use Rattle.listing.specs.Decimal.{width}
 use Rattle.listing_lines.proofs.width_of.Goals as goal
 

@@ -1,5 +1,5 @@
 -- `listing_table::held_rows` meets its contract: one law for each way out.
-use native.Mathlib.Omega.{arith}
+use Rattle.std.proofs.Common.{arith}
 use Rattle.listing.proofs.LineLaws.{held_many, held_few, held_all}
 use Rattle.listing_table.proofs.held_rows.Goals as goal
 

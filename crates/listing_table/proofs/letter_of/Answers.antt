@@ -1,6 +1,5 @@
 -- `listing_table::letter_of` meets its contract. One arm for each kind; behind them none matches.
-use borrow.Author.Rules.{rules}
-use borrow.Author.Tests.{ne_eqb}
+use Rattle.std.proofs.Common.{rules, ne_eqb}
 use Rattle.listing_table.proofs.letter_of.Goals as goal
 
 pub returns-in-1 : goal.returns-in-1

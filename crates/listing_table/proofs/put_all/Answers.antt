@@ -1,5 +1,5 @@
 -- `listing_table::put_all` meets its contract: the first line, the rows' lines, the last line.
-use native.Mathlib.Omega.{arith}
+use Rattle.std.proofs.Common.{arith}
 use Rattle.listing.specs.Internal.{table_text}
 use Rattle.listing.proofs.PutLaws.{puts_then, puts_length}
 use Rattle.listing.proofs.LineLaws.{length_table_text, length_end, length_header}

@@ -1,5 +1,5 @@
 -- `listing_table::put_end` meets its contract: the word, then the numbers.
-use native.Mathlib.Omega.{arith}
+use Rattle.std.proofs.Common.{arith}
 use Rattle.listing.specs.Lines.{end_line}
 use Rattle.listing.proofs.PutLaws.{lays_puts}
 use Rattle.listing_table.proofs.put_end.Goals as goal

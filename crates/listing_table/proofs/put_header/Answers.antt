@@ -1,5 +1,5 @@
 -- `listing_table::put_header` meets its contract.
-use native.Mathlib.Omega.{arith}
+use Rattle.std.proofs.Common.{arith}
 use Rattle.listing.specs.Lines.{header_line}
 use Rattle.listing.proofs.PutLaws.{puts_within}
 use Rattle.listing_table.proofs.put_header.Goals as goal

@@ -1,5 +1,5 @@
 -- `listing_table::put_row` meets its contract: the letter, then the numbers.
-use native.Mathlib.Omega.{arith}
+use Rattle.std.proofs.Common.{arith}
 use Rattle.listing.proofs.LineLaws.{puts_row}
 use Rattle.listing_table.proofs.put_row.Goals as goal
 

@@ -1,8 +1,7 @@
 -- `listing_table::put_rows` meets its contract. The loop keeps that storing the lines of the rows that are left completes the text.
-use native.Mathlib.Omega.{arith}
+use Rattle.std.proofs.Common.{arith, rules}
 use Rattle.listing.proofs.LineLaws.{reached_fits, listing_start, listing_next, listing_over}
 use Rattle.listing.proofs.PutLaws.{puts_length}
-use borrow.Author.Rules.{rules}
 use Rattle.listing_table.proofs.put_rows.Goals as goal
 
 pub loop-i-init : goal.loop-i-init

@@ -1,7 +1,6 @@
 -- `listing_table::row_size` meets its contract: a letter, then the numbers.
 use Rattle.listing.specs.Internal.{first_of}
-use lib.ListN.{drop}
-use native.Mathlib.Omega.{arith}
+use Rattle.std.proofs.Common.{drop, arith}
 use Rattle.listing.proofs.LineLaws.{length_row_at, row_most}
 use Rattle.listing_table.proofs.row_size.Goals as goal
 

@@ -1,5 +1,5 @@
 -- `listing_table::text_size` meets its contract: the first line, the rows' lines, the last line.
-use native.Mathlib.Omega.{arith}
+use Rattle.std.proofs.Common.{arith}
 use Rattle.listing.proofs.LineLaws.{length_table_text, table_most, fields_most}
 use Rattle.listing_table.proofs.text_size.Goals as goal
 

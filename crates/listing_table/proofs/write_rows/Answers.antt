@@ -1,5 +1,5 @@
 -- `listing_table::write_rows` meets its contract: the text fits, or nothing is written.
-use native.Mathlib.Omega.{arith}
+use Rattle.std.proofs.Common.{arith}
 use Rattle.listing.proofs.ListingLaws.{writes_short, writes_done}
 use Rattle.listing_table.proofs.write_rows.Goals as goal
 
@@ -7,4 +7,4 @@ pub returns-then-out-text_size : goal.returns-then-out-text_size
 returns-then-out-text_size c = writes_short _ _ (omega (arith, c.text_size.ensures))
 
 pub returns : goal.returns
-returns c = writes_done c.put_all-end.ensures (omega arith)
+returns c = writes_done c.put_all.ensures (omega arith)

@@ -1,7 +1,5 @@
 -- `listing_text::write_listed` meets its contract: the table has a row for every frame, so its text is that of the whole closed reading.
-use Prim.Native.Nat.{◌≤◌}
-use lib.ListN.{length}
-use native.Mathlib.Omega.{arith}
+use Rattle.std.proofs.Common.{◌≤◌, length, arith}
 use Rattle.listing.proofs.ListingLaws.{closed_whole, closed_few, writes_listed}
 use Rattle.listing_text.proofs.write_listed.Goals as goal
 

@@ -1,5 +1,5 @@
 -- `listing_text::write_listing` meets its contract: the input too long, or the lines of the closed reading.
-use native.Mathlib.Omega.{arith}
+use Rattle.std.proofs.Common.{arith}
 use Rattle.listing.specs.Lines.{refused_line}
 use Rattle.listing.proofs.ListingLaws.{listing_long, listing_whole}
 use Rattle.listing_text.proofs.write_listing.Goals as goal

@@ -1,5 +1,5 @@
 -- `listing_text::write_text` meets its contract: the text fits, or nothing is written.
-use native.Mathlib.Omega.{arith}
+use Rattle.std.proofs.Common.{arith}
 use Rattle.listing.proofs.ListingLaws.{writes_short, writes_stored}
 use Rattle.listing_text.proofs.write_text.Goals as goal
 
