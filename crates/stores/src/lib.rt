@@ -2,9 +2,11 @@
 #![tactic(auto)]
 
 ghost use Rattle.std.specs.Prelude.{◌≡◌, [], ◌∷◌, replicate};
+ghost use Rattle.refusals.specs.Numbers.{refusal_number};
 ghost use Rattle.digits.specs.Stores.{stored_within, writer_refusal};
 
 use digits::OUTPUT_TOO_SHORT;
+use refusals::Refusal;
 
 // Lays two bytes over the buffer at an offset; changes nothing where they do not fit.
 // `put_pair(out, 6, b'\r', b'\n')` stores a stop marker.
@@ -54,6 +56,18 @@ pub fn put_bytes(out: &mut [u8], at: usize, bytes: &[u8])
     while i < bytes.len() {
         out[at + i] = bytes[i];
         i = i + 1;
+    }
+}
+
+// Whether an output has room for so many bytes. `check_room(26, 25)` is refused, `check_room(26, 26)` is not.
+#[tactic(auto, unfolding(digits::specs::Stores::writer_refusal))]
+pub fn check_room(size: usize, room: usize) -> Result<(), Refusal>
+    ensures { refusal_number result ≡ writer_refusal 0 size room }
+{
+    if size <= room {
+        Ok(())
+    } else {
+        Err(Refusal::OutputTooShort)
     }
 }
 
