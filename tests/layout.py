@@ -27,6 +27,9 @@ for crate in sorted((root / "crates").iterdir()):
     # Behind a clause the body's brace stands on a line of its own.
     for found in re.finditer(r'^\s*pub (?:extern "C" )?fn (\w+)([^\n]* |.*?^\s*(?:\)[^\n]* )?)\{$', source, re.M | re.S):
         public[found[1]] = found[2]
+    # The methods of a public trait are public with it.
+    for trait in re.findall(r"^pub trait [^\n]*\{$.*?^\}$", source, re.M | re.S):
+        public |= {name: "" for name in re.findall(r"^ *fn (\w+)", trait, re.M)}
     functions += len(public)
     for name, signature in public.items():
         if (crate / "src" / "lib.rt").exists() and REQUIRES.search(signature):

@@ -64,7 +64,7 @@ class Edited:
     def reached(self):
         """The functions that the one that the edit is named after reaches by calls."""
         source = "\n".join(self.sources.values())
-        calls = {n: set(re.findall(r"\b(\w+)\(", source[start:end])) for n, f, start, end in items(source) if f}
+        calls = {n: set(re.findall(r"\b(\w+)(?:::<[^()]*?>)?\(", source[start:end])) for n, f, start, end in items(source) if f}
         seen, left = set(), {self.named}
         while left:
             seen |= left

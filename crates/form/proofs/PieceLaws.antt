@@ -3,7 +3,7 @@
 use mathlib.Core.Bool.{Bool, true, false, cond}
 use mathlib.Core.Path.{◌≡◌, refl, sym, ap, ◌∙◌}
 use mathlib.Core.List.{List, [], ◌∷◌}
-use Prim.Native.Nat.{ℕ, zero, suc, ◌+◌, ◌*◌, ◌<◌, ◌≤◌}
+use Prim.Native.Nat.{ℕ, zero, suc, ◌+◌, ◌-◌, ◌*◌, ◌<◌, ◌≤◌}
 use native.Mathlib.Omega.{arith}
 use native.Mathlib.Decide.{dec_lt, dec_le}
 use lib.Dec.{eqb}
@@ -14,7 +14,13 @@ use Rattle.digits.proofs.Lists.{drop_one, drop_four}
 use Rattle.form.specs.declared.Judgement.{Judgement}
 use Rattle.form.specs.declared.Judgement.TheVariants.{Whole, Bad, Waiting}
 use Rattle.form.specs.Form.{Form, whole, byte, word, ◌>>=◌, judge, judge_at}
-use Rattle.form.specs.Numbers.{numbers_of, Judges}
+use Rattle.form.specs.Numbers.{numbers_of, judgement_of, Judges}
+use Rattle.form.specs.declared.Parsed.{Parsed}
+use Rattle.form.specs.declared.Unparsed.{Unparsed}
+use Rattle.form.specs.declared.Unparsed.TheVariants as unparsed
+use Rattle.std.specs.Result.{IsErrAnd}
+use Rattle.std.specs.declared.result.Result.{Result}
+use Rattle.std.specs.declared.result.Result.TheVariants.{Ok, Err}
 use Rattle.form.specs.Pieces.{any, always, four, marker, free, frees}
 
 -- the promise of a judgement is its equation
@@ -373,3 +379,47 @@ marker_missed r (m ∷ ms) at (b ∷ xs) h n = go (eqb b m) refl (λ f. marker_m
 pub marker_other : (r : ℕ) (ms : List ℕ) (at : ℕ) (bs : List ℕ) → length ms ≤ length (drop at bs) → (take (length ms) (drop at bs) ≡ ms → ⊥)
     → Bad r ≡ judge_at (marker r ms) at bs
 marker_other r ms at bs h n = marker_missed r ms at (drop at bs) h n
+
+-- -- Pieces in a row, each taken by `?`
+
+-- what is left of a form that was judged from an offset on: another, from where its first pieces end
+pub record Left (q : Form) (from : ℕ) (p : Form) (at : ℕ) (bs : List ℕ) : Type 0 where
+  pub same : judge_at q from bs ≡ judge_at p at bs
+
+-- all of it, as the form says it
+pub all_left : {q p : Form} {from : ℕ} {bs : List ℕ} → q ≡ p → Left q from p from bs
+all_left {from = from} {bs = bs} e = record { same = ap (λ (p : Form). judge_at p from bs) e }
+
+-- what is left, as the form says it
+pub left_by : {q p p' : Form} {from at : ℕ} {bs : List ℕ} → p ≡ p' → Left q from p at bs → Left q from p' at bs
+left_by {at = at} {bs = bs} e l = record { same = l.same ∙ ap (λ (p : Form). judge_at p at bs) e }
+
+-- before a loop over n pieces: all of them
+pub none_done : (pieces : ℕ → Form) (n : ℕ) → pieces n ≡ pieces (n - 0)
+none_done pieces n = let e : n ≡ n - 0 = omega arith in ap pieces e
+
+-- the next piece stands: the others are left
+pub left_ok : {q p : Form} (h : ℕ → Form) {from at v e : ℕ} {bs : List ℕ} → Left q from (p >>= h) at bs → Judges p at bs (Whole v e)
+    → Left q from (h v) e bs
+left_ok h l j = record { same = l.same ∙ go_on _ _ _ _ j.answers refl }
+
+handed_on : (r : Result Parsed Unparsed) (u : Unparsed) → IsErrAnd r (λ v. v ≡ u) → judgement_of r ≡ judgement_of (Err u)
+handed_on (Ok a) u i = absurd i
+handed_on (Err v) u i = ap (λ (w : Unparsed). judgement_of (Err w)) i
+
+not_whole : (u : Unparsed) → Halted (judgement_of (Err u))
+not_whole (unparsed.Bad r) v e w = let z : ◌≡◌ {A = ℕ} 0 1 = cc in absurd (omega arith)
+not_whole unparsed.Waiting v e w = let z : ◌≡◌ {A = ℕ} 0 1 = cc in absurd (omega arith)
+
+-- the next piece does not stand: `?` hands its answer on, and it is that of all
+pub left_err : {q p : Form} (h : ℕ → Form) {from at : ℕ} {bs : List ℕ} (u : Unparsed) (r : Result Parsed Unparsed)
+    → Left q from (p >>= h) at bs → Judges p at bs (judgement_of (Err u)) → IsErrAnd r (λ v. v ≡ u) → Judges q from bs (judgement_of r)
+left_err h u r l j i = judges (handed_on r u i ∙ halt _ _ _ _ j.answers (not_whole u) ∙ sym l.same)
+
+-- the last piece's answer is that of all
+pub left_is : {q p : Form} {from at : ℕ} {bs : List ℕ} {r : Judgement} → Left q from p at bs → Judges p at bs r → Judges q from bs r
+left_is l j = judges (j.answers ∙ sym l.same)
+
+-- no piece is left: the value, and the offset that was come to
+pub left_none : {q : Form} {from at v : ℕ} {bs : List ℕ} → Left q from (whole v) at bs → Judges q from bs (Whole v at)
+left_none l = left_is l (judges (whole_there _ _ _))

@@ -1,6 +1,6 @@
 -- The laws of the frames' parts: each row is judged as the parts that the code judges one after the other, and a frame by its start marker
 -- and identifier and then its body.
-use mathlib.Core.Bool.{Bool, true, false, cond, ◌&&◌, ◌||◌}
+use mathlib.Core.Bool.{true, false, cond, ◌&&◌, ◌||◌}
 use mathlib.Core.Path.{◌≡◌, refl, sym, ap, ◌∙◌}
 use mathlib.Core.List.{List, [], ◌∷◌}
 use Prim.Native.Nat.{ℕ, zero, suc, ◌+◌, ◌-◌, ◌<◌, ◌≤◌}
@@ -8,13 +8,15 @@ use native.Mathlib.Omega.{arith}
 use borrow.Author.Tests.{eq-eqb, ne_eqb, eqb-true}
 use lib.Dec.{eqb}
 use lib.ListN.{length, get_or}
-use Rattle.digits.specs.Bytes.{is_hex}
+use Rattle.std.specs.List.{list_all, slice_range}
+use Rattle.digits.specs.Bytes.{is_hex, is_character}
 use Rattle.digits.proofs.Choices.{test, both_ways, and_left, and_right}
 use Rattle.form.specs.declared.Judgement.{Judgement}
 use Rattle.form.specs.declared.Judgement.TheVariants.{Whole, Bad, Waiting}
 use Rattle.form.specs.Form.{Form, whole, byte, ◌>>=◌, judge, judge_at}
 use Rattle.form.specs.Pieces.{one}
-use Rattle.form.proofs.PieceLaws.{byte_step, byte_ends, go_on, halt, Halted}
+use Rattle.form.proofs.PieceLaws.{byte_step, byte_ends, go_on}
+use Rattle.sirad.proofs.Runs.{run_all}
 use Rattle.sirad.specs.Classes.{Hex, Char, Zero, Cr, Lf, accepts, reason}
 use Rattle.sirad.specs.declared.Kind.{Kind}
 use Rattle.sirad.specs.declared.Kind.TheVariants.{Unknown}
@@ -24,69 +26,57 @@ use Rattle.sirad.specs.Sirad.{lay, row, run, head, target, behind_first, block, 
 -- -- The rows
 
 -- the stop marker is its two bytes
-pub stop_form : (kind at : ℕ) (s : List ℕ) → judge_at (row ending kind) at s ≡ judge_at
-    (one (reason Cr) (accepts Cr) >>= (λ _. one (reason Lf) (accepts Lf) >>= (λ _. whole kind))) at s
+pub stop_form : (kind : ℕ) → row ending kind
+    ≡ (one (reason Cr) (accepts Cr) >>= (λ _. one (reason Lf) (accepts Lf) >>= (λ _. whole kind)))
 unfolding row run ◌>>=◌
-stop_form kind at s = refl
+stop_form kind = refl
 
 -- format and gain are a digit and a character
-pub head_form : (at : ℕ) (s : List ℕ) → judge_at head at s ≡ judge_at
-    (one (reason Hex) (accepts Hex) >>= (λ _. one (reason Char) (accepts Char) >>= (λ _. whole 0))) at s
+pub head_form : head ≡ (one (reason Hex) (accepts Hex) >>= (λ _. one (reason Char) (accepts Char) >>= (λ _. whole 0)))
 unfolding lay ◌>>=◌
-head_form at s = refl
+head_form = refl
 
 -- format and gain, 20 digits, the stop marker
-pub status_form : (at : ℕ) (s : List ℕ) → judge_at (row u_pieces 5) at s
-    ≡ judge_at (head >>= (λ _. run 20 Hex >>= (λ _. row ending 5))) at s
+pub status_form : row u_pieces 5 ≡ (head >>= (λ _. run 20 Hex >>= (λ _. row ending 5)))
 unfolding lay row run ◌>>=◌
-status_form at s = refl
+status_form = refl
 
 -- 4 digits, the stop marker
-pub error_form : (at : ℕ) (s : List ℕ) → judge_at (row e_pieces 6) at s ≡ judge_at (run 4 Hex >>= (λ _. row ending 6)) at s
+pub error_form : row e_pieces 6 ≡ (run 4 Hex >>= (λ _. row ending 6))
 unfolding row run ◌>>=◌
-error_form at s = refl
+error_form = refl
 
 -- format and gain, 16 blocks, the stop marker
-pub targets_form : (at : ℕ) (s : List ℕ) → judge_at (row t_pieces 4) at s ≡ judge_at (head >>= (λ _. row (blocks 16) 4)) at s
+pub targets_form : row t_pieces 4 ≡ (head >>= (λ _. row (blocks 16) 4))
 unfolding lay row run ◌>>=◌
-targets_form at s = refl
+targets_form = refl
 
 -- number and distance, magnitude, phase, reserved
-pub target_form : (at : ℕ) (s : List ℕ)
-    → judge_at target at s ≡ judge_at (run 5 Hex >>= (λ _. run 1 Char >>= (λ _. run 4 Hex >>= (λ _. run 4 Char)))) at s
+pub target_form : target ≡ (run 5 Hex >>= (λ _. run 1 Char >>= (λ _. run 4 Hex >>= (λ _. run 4 Char))))
 unfolding lay run target ◌>>=◌
-target_form at s = refl
+target_form = refl
 
 -- distance, magnitude, phase, reserved
-behind_form : (at : ℕ) (s : List ℕ)
-    → judge_at (lay behind_number 0) at s ≡ judge_at (run 4 Hex >>= (λ _. run 1 Char >>= (λ _. run 4 Hex >>= (λ _. run 4 Char)))) at s
+behind_form : lay behind_number 0 ≡ (run 4 Hex >>= (λ _. run 1 Char >>= (λ _. run 4 Hex >>= (λ _. run 4 Char))))
 unfolding lay run ◌>>=◌
-behind_form at s = refl
+behind_form = refl
 
--- the four runs behind a target's number, each with its flag, and the flag of all
-pub behind_seen : (p : ℕ) (s : List ℕ) (a b c d e f g : Bool)
-    → (a ≡ true → judge_at (run 4 Hex) (p + 1) s ≡ Whole 0 (p + 1 + 4))
-    → (b ≡ true → judge_at (run 1 Char) (p + 5) s ≡ Whole 0 (p + 5 + 1))
-    → (c ≡ true → judge_at (run 4 Hex) (p + 6) s ≡ Whole 0 (p + 6 + 4))
-    → (d ≡ true → judge_at (run 4 Char) (p + 10) s ≡ Whole 0 (p + 10 + 4))
-    → e ≡ (a && b) → f ≡ (c && d) → g ≡ (e && f) → g ≡ true → judge_at (lay behind_number 0) (p + 1) s ≡ Whole 0 (p + 14)
-behind_seen p s a b c d e f g ha hb hc hd he hf hg y =
-    let x : (e && f) ≡ true = sym hg ∙ y in
-    let m : (a && b) ≡ true = sym he ∙ and_left e f x in
-    let n : (c && d) ≡ true = sym hf ∙ and_right e f x in
-    let h : p + 1 + 4 ≡ p + 5 = omega arith in
-    let i : p + 5 + 1 ≡ p + 6 = omega arith in
-    let j : p + 6 + 4 ≡ p + 10 = omega arith in
-    let k : p + 10 + 4 ≡ p + 14 = omega arith in
-    behind_form (p + 1) s
-    ∙ go_on (run 4 Hex) (λ _. run 1 Char >>= (λ _. run 4 Hex >>= (λ _. run 4 Char))) (p + 1) s refl (ha (and_left a b m))
-    ∙ ap (λ (q : ℕ). judge_at (run 1 Char >>= (λ _. run 4 Hex >>= (λ _. run 4 Char))) q s) h
-    ∙ go_on (run 1 Char) (λ _. run 4 Hex >>= (λ _. run 4 Char)) (p + 5) s refl (hb (and_right a b m))
-    ∙ ap (λ (q : ℕ). judge_at (run 4 Hex >>= (λ _. run 4 Char)) q s) i
-    ∙ go_on (run 4 Hex) (λ _. run 4 Char) (p + 6) s refl (hc (and_left c d n))
-    ∙ ap (λ (q : ℕ). judge_at (run 4 Char) q s) j
-    ∙ hd (and_right c d n)
-    ∙ ap (λ (q : ℕ). Whole 0 q) k
+-- the four runs behind a target's number
+pub behind_seen : (p : ℕ) (s : List ℕ) → p + 14 ≤ length s
+    → (((list_all is_hex (slice_range s (p + 1) (p + 5)) && list_all is_character (slice_range s (p + 5) (p + 6)))
+    && list_all is_hex (slice_range s (p + 6) (p + 10))) && list_all is_character (slice_range s (p + 10) (p + 14))) ≡ true
+    → judge_at (lay behind_number 0) (p + 1) s ≡ Whole 0 (p + 14)
+behind_seen p s h t =
+    let k = and_left _ _ t in
+    let m = and_left _ _ k in
+    ap (λ (q : Form). judge_at q (p + 1) s) behind_form
+    ∙ go_on (run 4 Hex) (λ _. run 1 Char >>= (λ _. run 4 Hex >>= (λ _. run 4 Char))) (p + 1) s refl
+    (run_all 4 Hex (p + 1) (p + 5) s (omega arith) (omega arith) (and_left _ _ m))
+    ∙ go_on (run 1 Char) (λ _. run 4 Hex >>= (λ _. run 4 Char)) (p + 5) s refl
+    (run_all 1 Char (p + 5) (p + 6) s (omega arith) (omega arith) (and_right _ _ m))
+    ∙ go_on (run 4 Hex) (λ _. run 4 Char) (p + 6) s refl
+    (run_all 4 Hex (p + 6) (p + 10) s (omega arith) (omega arith) (and_right _ _ k))
+    ∙ run_all 4 Char (p + 10) (p + 14) s (omega arith) (omega arith) (and_right _ _ t)
 
 characters_form : (n kind : ℕ) → row (characters n) kind ≡ (run n Char >>= (λ _. row ending kind))
 unfolding row run characters ◌>>=◌
@@ -94,10 +84,9 @@ characters_form zero kind = refl
 characters_form (suc n) kind = ap (λ (p : Form). byte 13 (accepts Char) (λ _. p)) (characters_form n kind)
 
 -- reserved bytes and data are one run of characters
-pub data_form : (n kind at : ℕ) (s : List ℕ)
-    → judge_at (row (data_pieces n) kind) at s ≡ judge_at (run (n + 8) Char >>= (λ _. row ending kind)) at s
+pub data_form : (n kind : ℕ) → row (data_pieces n) kind ≡ (run (n + 8) Char >>= (λ _. row ending kind))
 unfolding row run ◌>>=◌
-data_form n kind at s =
+data_form n kind =
     let e : n + 8 ≡ suc (suc (suc (suc (suc (suc (suc (suc n))))))) = omega arith in
     rw (e, characters_form n kind)
 
@@ -158,25 +147,15 @@ module _ (at : ℕ) (s : List ℕ) where
 
 -- -- Blocks
 
-blocks_first : (n at : ℕ) (s : List ℕ) → 0 < n → judge_at (row (blocks n) 4) at s ≡ judge_at (block >>= (λ _. row (blocks (n - 1)) 4)) at s
+-- behind i blocks of n the next one is judged, and then the others
+pub blocks_next : (i n : ℕ) → i < n → row (blocks (n - i)) 4 ≡ (block >>= (λ _. row (blocks (n - (i + 1))) 4))
 unfolding row blocks
-blocks_first zero at s h = absurd (omega arith)
-blocks_first (suc n) at s h = let e : suc n - 1 ≡ n = omega arith in rw e
+blocks_next i n h = let e : n - i ≡ suc (n - (i + 1)) = omega arith in rw e
 
-module _ (n at : ℕ) (s : List ℕ) where
-  -- the next block stands: the others are left
-  pub blocks_next : {r : Judgement} {v e : ℕ} → 0 < n → r ≡ judge_at block at s → r ≡ Whole v e
-      → judge_at (row (blocks n) 4) at s ≡ judge_at (row (blocks (n - 1)) 4) e s
-  blocks_next h a b = blocks_first n at s h ∙ go_on _ _ _ _ a b
-
-  -- the next block does not stand: its judgement is that of all
-  pub blocks_halt : {r : Judgement} → 0 < n → r ≡ judge_at block at s → Halted r → r ≡ judge_at (row (blocks n) 4) at s
-  blocks_halt h a o = halt _ _ _ _ a o ∙ sym (blocks_first n at s h)
-
-  -- no block is left: the stop marker
-  pub blocks_over : n ≤ 0 → judge_at (row ending 4) at s ≡ judge_at (row (blocks n) 4) at s
-  unfolding blocks
-  blocks_over h = let e : n ≡ 0 = omega arith in rw e
+-- behind all blocks: the stop marker
+pub blocks_over : (i n : ℕ) → n ≤ i → row (blocks (n - i)) 4 ≡ row ending 4
+unfolding blocks
+blocks_over i n h = let e : n - i ≡ 0 = omega arith in rw e
 
 -- -- The start of a frame
 

@@ -1,16 +1,12 @@
 -- The laws of single bytes and runs of bytes: a run is judged by its first bytes and then by what is left of it.
-use mathlib.Core.Bool.{Bool, true, false, ◌&&◌}
-use mathlib.Core.Path.{◌≡◌, refl, sym, ap, ◌∙◌}
-use mathlib.Core.List.{List}
-use Prim.Native.Nat.{ℕ, zero, suc, ◌+◌, ◌-◌, ◌<◌, ◌≤◌}
-use native.Mathlib.Omega.{arith}
-use lib.ListN.{length, get_or}
+use Rattle.std.proofs.Common.{Bool, true, false, cond, ◌≡◌, refl, sym, ap, ◌∙◌, List, [], ◌∷◌, length, get_or, take, drop, length-drop}
+use Rattle.std.proofs.Common.{ℕ, zero, suc, ◌+◌, ◌-◌, ◌<◌, ◌≤◌, arith}
+use Rattle.std.specs.List.{list_all, slice_range}
 use Rattle.digits.proofs.Choices.{and_left, and_right}
-use Rattle.form.specs.declared.Judgement.{Judgement}
 use Rattle.form.specs.declared.Judgement.TheVariants.{Whole, Bad, Waiting}
 use Rattle.form.specs.Form.{Form, whole, byte, ◌>>=◌, judge, judge_at}
 use Rattle.form.specs.Pieces.{one}
-use Rattle.form.proofs.PieceLaws.{byte_step, byte_ends, go_on, halt, Halted}
+use Rattle.form.proofs.PieceLaws.{byte_step, byte_ends}
 use Rattle.sirad.specs.Classes.{Class, accepts, reason}
 use Rattle.sirad.specs.Sirad.{run}
 
@@ -21,37 +17,38 @@ module _ (r : ℕ) (t : ℕ → Bool) (at : ℕ) (s : List ℕ) where
   pub one_ends : length s ≤ at → Waiting ≡ judge_at (one r t) at s
   one_ends h = sym (byte_ends r t whole at s h)
 
-  -- the byte passes
-  pub one_hit : at < length s → t (get_or s at 0) ≡ true → Whole (get_or s at 0) (at + 1) ≡ judge_at (one r t) at s
-  unfolding judge
-  one_hit l h = sym (byte_step r t whole at s l ∙ rw h)
+  module _ {b : ℕ} (l : at < length s) (e : b ≡ get_or s at 0) where
+    step : judge_at (one r t) at s ≡ cond (t b) (Whole b (at + 1)) (Bad r)
+    unfolding judge
+    step = byte_step r t whole at s l ∙ ap (λ (x : ℕ). cond (t x) (Whole x (at + 1)) (Bad r)) (sym e)
 
-  -- the byte is refused
-  pub one_miss : at < length s → t (get_or s at 0) ≡ false → Bad r ≡ judge_at (one r t) at s
-  one_miss l h = sym (byte_step r t whole at s l ∙ rw h)
+    -- the byte b passes
+    pub one_hit : t b ≡ true → Whole b (at + 1) ≡ judge_at (one r t) at s
+    one_hit i = sym (step ∙ rw i)
+
+    -- the byte b is refused
+    pub one_miss : t b ≡ false → Bad r ≡ judge_at (one r t) at s
+    one_miss i = sym (step ∙ rw i)
+
+-- a byte that stands has passed
+pub one_passed : (r : ℕ) (t : ℕ → Bool) (at : ℕ) (s : List ℕ) (v e : ℕ) → Whole v e ≡ judge_at (one r t) at s → t v ≡ true
+unfolding judge
+one_passed r t at s v e w = by (drop at s) w
+  where
+    tested : (b : ℕ) (u : Bool) → t b ≡ u → Whole v e ≡ cond u (Whole b (at + 1)) (Bad r) → t v ≡ true
+    tested b true a w = let x : v ≡ b = cc in ap t x ∙ a
+    tested b false a w = let z : ◌≡◌ {A = ℕ} 0 1 = cc in absurd (omega arith)
+
+    by : (xs : List ℕ) → Whole v e ≡ judge (one r t) at xs → t v ≡ true
+    by [] w = let z : ◌≡◌ {A = ℕ} 0 1 = cc in absurd (omega arith)
+    by (b ∷ xs) w = tested b (t b) refl w
 
 -- -- Runs
 
-run_first : (n : ℕ) (c : Class) (at : ℕ) (s : List ℕ) → 0 < n
-    → judge_at (run n c) at s ≡ judge_at (one (reason c) (accepts c) >>= (λ _. run (n - 1) c)) at s
+-- behind i bytes of a run the next one is judged, and then what is left
+pub run_next : (i n : ℕ) (c : Class) → i < n → run (n - i) c ≡ (one (reason c) (accepts c) >>= (λ _. run (n - (i + 1)) c))
 unfolding run ◌>>=◌
-run_first zero c at s h = absurd (omega arith)
-run_first (suc n) c at s h = let e : suc n - 1 ≡ n = omega arith in rw e
-
-module _ (n : ℕ) (c : Class) (at : ℕ) (s : List ℕ) where
-  -- the next byte passes: the rest is left
-  pub run_next : {r : Judgement} {v e : ℕ} → 0 < n → r ≡ judge_at (one (reason c) (accepts c)) at s → r ≡ Whole v e
-      → judge_at (run n c) at s ≡ judge_at (run (n - 1) c) e s
-  run_next h a b = run_first n c at s h ∙ go_on _ _ _ _ a b
-
-  -- the next byte does not pass: its judgement is that of the run
-  pub run_halts : {r : Judgement} → 0 < n → r ≡ judge_at (one (reason c) (accepts c)) at s → Halted r → r ≡ judge_at (run n c) at s
-  run_halts h a o = halt _ _ _ _ a o ∙ sym (run_first n c at s h)
-
-  -- nothing is left
-  pub run_over : n ≤ 0 → Whole 0 at ≡ judge_at (run n c) at s
-  unfolding run judge
-  run_over h = let e : n ≡ 0 = omega arith in rw e
+run_next i n c h = let e : n - i ≡ suc (n - (i + 1)) = omega arith in rw e
 
 run_split : (m n : ℕ) (c : Class) → m ≤ n → run n c ≡ (run m c >>= (λ _. run (n - m) c))
 unfolding run ◌>>=◌
@@ -61,49 +58,29 @@ run_split (suc m) (suc n) c h =
     let e : suc n - suc m ≡ n - m = omega arith in
     ap (λ (p : Form). byte (reason c) (accepts c) (λ _. p)) (run_split m n c (omega arith)) ∙ rw e
 
-module _ (m n : ℕ) (c : Class) (at : ℕ) (s : List ℕ) (h : m ≤ n) where
-  -- the first m bytes pass: the others are left
-  pub part_next : {r : Judgement} {v e : ℕ} → r ≡ judge_at (run m c) at s → r ≡ Whole v e
-      → judge_at (run n c) at s ≡ judge_at (run (n - m) c) e s
-  part_next a b = ap (λ (p : Form). judge_at p at s) (run_split m n c h) ∙ go_on _ _ _ _ a b
+-- behind i bytes of a run the m up to byte k are judged, and then what is left
+pub run_part : (m i k n : ℕ) (c : Class) → i + m ≡ k → k ≤ n → run (n - i) c ≡ (run m c >>= (λ _. run (n - k) c))
+run_part m i k n c e h = run_split m (n - i) c (omega arith) ∙ (let d : n - i - m ≡ n - k = omega arith in rw d)
 
-  -- one of the first m bytes does not pass
-  pub part_halts : {r : Judgement} → r ≡ judge_at (run m c) at s → Halted r → r ≡ judge_at (run n c) at s
-  part_halts a o = halt _ _ _ _ a o ∙ sym (ap (λ (p : Form). judge_at p at s) (run_split m n c h))
+-- behind all of them nothing is left
+pub run_over : (i n : ℕ) (c : Class) → n ≤ i → run (n - i) c ≡ whole 0
+unfolding run
+run_over i n c h = let e : n - i ≡ 0 = omega arith in rw e
 
--- -- The flag of a run: while it is true, the run is judged as what is left of it
+all_judged : (n : ℕ) (c : Class) (at : ℕ) (xs : List ℕ) → n ≤ length xs → list_all (accepts c) (take n xs) ≡ true
+    → judge (run n c) at xs ≡ Whole 0 (at + n)
+unfolding run judge
+all_judged zero c at xs h t = ap (Whole 0) (omega arith)
+all_judged (suc n) c at [] h t = absurd (omega arith)
+all_judged (suc n) c at (x ∷ xs) h t =
+    let a : accepts c x ≡ true = and_left (accepts c x) (list_all (accepts c) (take n xs)) t in
+    let b = and_right (accepts c x) (list_all (accepts c) (take n xs)) t in
+    rw a (all_judged n c (at + 1) xs (omega arith) b ∙ ap (Whole 0) (omega arith))
 
-module _ (s : List ℕ) (from n : ℕ) (c : Class) where
-  -- after i bytes of the run
-  unfoldable pub Seen : ℕ → Type 0
-  Seen i = judge_at (run n c) from s ≡ judge_at (run (n - i) c) (from + i) s
-
-  pub seen_none : Seen 0
-  unfolding Seen
-  seen_none =
-      let a : n - 0 ≡ n = omega arith in
-      let b : from + 0 ≡ from = omega arith in
-      rw (a, b)
-
-  seen_step : (i : ℕ) → i < n → from + n ≤ length s → accepts c (get_or s (from + i) 0) ≡ true → Seen i → Seen (i + 1)
-  unfolding Seen
-  seen_step i h l t e =
-      let a : n - i - 1 ≡ n - (i + 1) = omega arith in
-      let b : from + i + 1 ≡ from + (i + 1) = omega arith in
-      e
-      ∙ run_next (n - i) c (from + i) s (omega arith) (one_hit (reason c) (accepts c) (from + i) s (omega arith) t) refl
-      ∙ ap (λ (m : ℕ). judge_at (run m c) (from + i + 1) s) a
-      ∙ ap (λ (p : ℕ). judge_at (run (n - (i + 1)) c) p s) b
-
-  -- one byte more, and the flag with its test
-  pub seen_next : (i : ℕ) (ok t ok' : Bool) → i < n → from + n ≤ length s → (ok ≡ true → Seen i) → t ≡ accepts c (get_or s (from + i) 0)
-      → ok' ≡ (ok && t) → ok' ≡ true → Seen (i + 1)
-  seen_next i ok t ok' h l inv a b y =
-      seen_step i h l (sym a ∙ and_right ok t (sym b ∙ y)) (inv (and_left ok t (sym b ∙ y)))
-
-  -- all bytes of the run
-  pub seen_all : (i : ℕ) → i ≤ n → n ≤ i → Seen i → judge_at (run n c) from s ≡ Whole 0 (from + n)
-  unfolding Seen
-  seen_all i l h e =
-      let a : i ≡ n = omega arith in
-      e ∙ sym (run_over (n - i) c (from + i) s (omega arith)) ∙ ap (λ (m : ℕ). Whole 0 (from + m)) a
+-- n bytes of the class
+pub run_all : (n : ℕ) (c : Class) (at end : ℕ) (s : List ℕ) → at + n ≡ end → end ≤ length s
+    → list_all (accepts c) (slice_range s at end) ≡ true → judge_at (run n c) at s ≡ Whole 0 end
+run_all n c at end s e h t =
+    let d : end - at ≡ n = omega arith in
+    let u : list_all (accepts c) (take n (drop at s)) ≡ true = ap (λ (m : ℕ). list_all (accepts c) (take m (drop at s))) (sym d) ∙ t in
+    all_judged n c at (drop at s) (simp length-drop (omega arith)) u ∙ ap (Whole 0) e

@@ -2,4 +2,3 @@ pub mod Classes
 pub mod Rows
 pub mod Sirad
 pub mod Table
-pub mod Internal

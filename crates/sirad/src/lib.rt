@@ -1,14 +1,6 @@
 // The SiRad frames (paper 01, "SiRad"; paper 02, (ii)): their types, definitions and laws.
 #![tactic(auto)]
 
-// The classes of which a frame has runs of bytes; a fixed byte is tested apart.
-#[derive(Clone, Copy)]
-pub enum ByteClass {
-    Hex,
-    Char,
-    Zero,
-}
-
 // What an identifier announces; the frames with a size field carry their kind.
 #[derive(Clone, Copy)]
 pub enum Kind {

@@ -2,13 +2,11 @@
 #![tactic(auto)]
 
 ghost use Rattle.std.specs.Prelude.{◌≡◌, eqb};
-ghost use Rattle.form.specs.Numbers.{Judges};
+ghost use Rattle.form.specs.Numbers.{Judges, judgement_of};
 ghost use Rattle.form.specs.Pieces.{one};
-ghost use Rattle.sirad.specs.Classes.{accepts, reason};
-ghost use Rattle.sirad.specs.Internal.{class_of};
+ghost use Rattle.sirad.specs.Classes.{Class, Hex, Char, Zero, accepts, reason};
 
-use form::Judgement;
-use sirad::ByteClass;
+use form::{Parsed, Unparsed};
 
 // The reasons of single bytes (paper 01, "Judging a place"; paper 02, (ii)).
 pub const NO_DIGIT: u32 = 12;
@@ -19,55 +17,92 @@ pub const NO_STOP: u32 = 14;
 
 pub const BROKEN_EMPTY: u32 = 17;
 
-// Whether a byte is of the class.
-pub fn is_of(c: ByteClass, b: u8) -> bool
-    ensures { result ≡ accepts (class_of c) b }
-{
-    match c {
-        ByteClass::Hex => digits::is_hex(b),
-        ByteClass::Char => digits::is_character(b),
-        ByteClass::Zero => b == 0,
+// A class of which a frame has runs of bytes; a fixed byte is tested apart.
+pub trait ByteClass {
+    ghost class: { Class };
+
+    // Whether a byte is of the class.
+    fn is_of(b: u8) -> bool
+        ensures { result ≡ accepts class b };
+
+    // The reason of a byte that is not.
+    fn reason() -> u32
+        ensures { result ≡ reason class };
+}
+
+// The upper-case hex digits.
+pub struct HexDigit;
+
+impl ByteClass for HexDigit {
+    ghost class = { Hex };
+
+    fn is_of(b: u8) -> bool {
+        digits::is_hex(b)
+    }
+
+    fn reason() -> u32 {
+        NO_DIGIT
     }
 }
 
-// The reason of a byte that is not.
-fn reason_of(c: ByteClass) -> u32
-    ensures { result ≡ reason (class_of c) }
-{
-    match c {
-        ByteClass::Hex => NO_DIGIT,
-        ByteClass::Char => NO_CHARACTER,
-        ByteClass::Zero => BROKEN_EMPTY,
+// The bytes 34 to 254.
+pub struct Character;
+
+impl ByteClass for Character {
+    ghost class = { Char };
+
+    fn is_of(b: u8) -> bool {
+        digits::is_character(b)
+    }
+
+    fn reason() -> u32 {
+        NO_CHARACTER
     }
 }
 
-pub fn byte_of(s: &[u8], at: usize, c: ByteClass) -> Judgement
-    ensures { Judges (one (reason (class_of c)) (accepts (class_of c))) at s.now result }
+// The value 0, of which an empty block has all its bytes.
+pub struct ZeroByte;
+
+impl ByteClass for ZeroByte {
+    ghost class = { Zero };
+
+    fn is_of(b: u8) -> bool {
+        b == 0
+    }
+
+    fn reason() -> u32 {
+        BROKEN_EMPTY
+    }
+}
+
+// The byte of a class at an offset, with the byte for its value.
+pub fn byte_of<C: ByteClass>(s: &[u8], at: usize) -> Result<Parsed, Unparsed>
+    ensures { Judges (one (reason C.class) (accepts C.class)) at s.now (judgement_of result) }
 {
-    if s.len() <= at {
-        return Judgement::Waiting; // the byte may still come
+    let Some(&b) = s.get(at) else {
+        return Err(Unparsed::Waiting); // the byte may still come
+    };
+    if !C::is_of(b) {
+        return Err(Unparsed::Bad(C::reason()));
     }
-    let b = s[at];
-    if is_of(c, b) {
-        let end = at + 1;
-        let v = b as u32;
-        return Judgement::Whole(v, end);
-    }
-    Judgement::Bad(reason_of(c))
+    Ok(Parsed {
+        value: b as u32,
+        end: at + 1,
+    })
 }
 
 // A byte that is fixed, and the reason of any other.
-pub fn fixed_at(s: &[u8], at: usize, fixed: u8, reason: u32) -> Judgement
-    ensures { Judges (one reason (λ b. eqb b fixed)) at s.now result }
+pub fn fixed_at(s: &[u8], at: usize, fixed: u8, reason: u32) -> Result<Parsed, Unparsed>
+    ensures { Judges (one reason (λ b. eqb b fixed)) at s.now (judgement_of result) }
 {
-    if s.len() <= at {
-        return Judgement::Waiting;
+    let Some(&b) = s.get(at) else {
+        return Err(Unparsed::Waiting);
+    };
+    if b != fixed {
+        return Err(Unparsed::Bad(reason));
     }
-    let b = s[at];
-    if b == fixed {
-        let end = at + 1;
-        let v = b as u32;
-        return Judgement::Whole(v, end);
-    }
-    Judgement::Bad(reason)
+    Ok(Parsed {
+        value: b as u32,
+        end: at + 1,
+    })
 }

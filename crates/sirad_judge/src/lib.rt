@@ -4,14 +4,13 @@
 ghost use Rattle.std.specs.Prelude.{◌≡◌, true, ◌≤◌};
 ghost use Rattle.digits.specs.Bytes.{is_hex};
 ghost use Rattle.digits.specs.Hex.{digit};
-ghost use Rattle.form.specs.Form.{judge_at};
-ghost use Rattle.form.specs.Numbers.{Judges};
+ghost use Rattle.form.specs.Numbers.{Judges, judgement_of};
 ghost use Rattle.sirad.specs.Rows.{ending, blocks, t_pieces, u_pieces, e_pieces};
 ghost use Rattle.sirad.specs.Sirad.{row, number, head, sized, kind_of, sirad};
 
-use form::Judgement;
-use sirad::{ByteClass, Kind};
-use sirad_bytes::{NO_DIGIT, NO_STOP, byte_of, fixed_at};
+use form::{Judgement, Parsed, Unparsed};
+use sirad::Kind;
+use sirad_bytes::{Character, HexDigit, NO_STOP, byte_of, fixed_at};
 use sirad_pieces::{block_at, chars, hexes};
 
 // The byte that starts every frame and stands nowhere else in one.
@@ -52,134 +51,91 @@ const STATUS_DIGITS: usize = 20;
 const FLAG_DIGITS: usize = 4;
 
 // What a hex digit stands for: `digits::digit_of` for a byte that is known to be one, with one test instead of four.
-fn digit_of(b: u8) -> u32
+fn digit_of(b: u32) -> u32
     requires { is_hex b ≡ true }
     ensures { result ≡ digit b }
 {
-    if b < b'A' {
-        return b as u32 - 48;
-    }
-    b as u32 - 55
+    if b < 65 { b - 48 } else { b - 55 }
 }
 
 // The number of n hex digits, which fits.
-fn hex_number(s: &[u8], from: usize, n: usize) -> Judgement
+fn hex_number(s: &[u8], from: usize, n: usize) -> Result<Parsed, Unparsed>
     requires { n ≤ 7 }
-    ensures { result ≡ judge_at (number n 0) from s.now }
+    ensures { Judges (number n 0) from s.now (judgement_of result) }
 {
-    let mut v: u32 = 0;
+    let mut value = 0;
     let mut at = from;
-    let mut i: usize = 0;
-    while i < n {
-        if s.len() <= at {
-            return Judgement::Waiting;
-        }
-        let b = s[at];
-        if digits::is_hex(b) {
-            let d = digit_of(b);
-            v = v * 16 + d;
-            at = at + 1;
-            i = i + 1;
-        } else {
-            return Judgement::Bad(NO_DIGIT);
-        }
+    for _ in 0..n {
+        let read = byte_of::<HexDigit>(s, at)?;
+        value = value * 16 + digit_of(read.value);
+        at = read.end;
     }
-    Judgement::Whole(v, at)
+    Ok(Parsed { value, end: at })
 }
 
-fn stop(s: &[u8], at: usize, kind: u32) -> Judgement
-    ensures { result ≡ judge_at (row ending kind) at s.now }
+// The stop marker of a frame of this kind.
+fn stop(s: &[u8], at: usize, kind: u32) -> Result<Parsed, Unparsed>
+    ensures { Judges (row ending kind) at s.now (judgement_of result) }
 {
-    let a = fixed_at(s, at, CR, NO_STOP);
-    let Judgement::Whole(_, i) = a else {
-        return a;
-    };
-    let b = fixed_at(s, i, LF, NO_STOP);
-    let Judgement::Whole(_, e) = b else {
-        return b;
-    };
-    Judgement::Whole(kind, e)
+    let cr = fixed_at(s, at, CR, NO_STOP)?;
+    let lf = fixed_at(s, cr.end, LF, NO_STOP)?;
+    Ok(Parsed {
+        value: kind,
+        end: lf.end,
+    })
 }
 
 // Format and gain.
-fn head_at(s: &[u8], at: usize) -> Judgement
-    ensures { result ≡ judge_at head at s.now }
+fn head_at(s: &[u8], at: usize) -> Result<Parsed, Unparsed>
+    ensures { Judges head at s.now (judgement_of result) }
 {
-    let a = byte_of(s, at, ByteClass::Hex);
-    let Judgement::Whole(_, i) = a else {
-        return a;
-    };
-    let b = byte_of(s, i, ByteClass::Char);
-    let Judgement::Whole(_, e) = b else {
-        return b;
-    };
-    Judgement::Whole(0, e)
+    let format = byte_of::<HexDigit>(s, at)?;
+    let gain = byte_of::<Character>(s, format.end)?;
+    Ok(Parsed {
+        value: 0,
+        end: gain.end,
+    })
 }
 
 // n blocks and the stop marker.
-fn blocks_from(s: &[u8], from: usize, n: usize) -> Judgement
-    ensures { result ≡ judge_at (row (blocks n) 4) from s.now }
+fn blocks_from(s: &[u8], from: usize, n: usize) -> Result<Parsed, Unparsed>
+    ensures { Judges (row (blocks n) 4) from s.now (judgement_of result) }
 {
     let mut at = from;
-    let mut left = n;
-    while 0 < left {
-        let a = block_at(s, at);
-        let Judgement::Whole(_, e) = a else {
-            return a;
-        };
-        at = e;
-        left = left - 1;
+    for _ in 0..n {
+        at = block_at(s, at)?.end;
     }
     stop(s, at, TARGETS)
 }
 
-fn data_frame(s: &[u8], at: usize, kind: u32) -> Judgement
-    ensures { result ≡ judge_at (sized kind) at s.now }
+fn data_frame(s: &[u8], at: usize, kind: u32) -> Result<Parsed, Unparsed>
+    ensures { Judges (sized kind) at s.now (judgement_of result) }
 {
-    let a = hex_number(s, at, SIZE_DIGITS);
-    let Judgement::Whole(n, i) = a else {
-        return a;
-    };
-    let count = n as usize + RESERVED;
-    let b = chars(s, i, count);
-    let Judgement::Whole(_, j) = b else {
-        return b;
-    };
-    stop(s, j, kind)
+    let size = hex_number(s, at, SIZE_DIGITS)?;
+    let data = chars(s, size.end, size.value as usize + RESERVED)?;
+    stop(s, data.end, kind)
 }
 
-fn target_list(s: &[u8], at: usize) -> Judgement
-    ensures { result ≡ judge_at (row t_pieces 4) at s.now }
+fn target_list(s: &[u8], at: usize) -> Result<Parsed, Unparsed>
+    ensures { Judges (row t_pieces 4) at s.now (judgement_of result) }
 {
-    let a = head_at(s, at);
-    let Judgement::Whole(_, i) = a else {
-        return a;
-    };
-    blocks_from(s, i, BLOCKS)
+    let head = head_at(s, at)?;
+    blocks_from(s, head.end, BLOCKS)
 }
 
-fn status_update(s: &[u8], at: usize) -> Judgement
-    ensures { result ≡ judge_at (row u_pieces 5) at s.now }
+fn status_update(s: &[u8], at: usize) -> Result<Parsed, Unparsed>
+    ensures { Judges (row u_pieces 5) at s.now (judgement_of result) }
 {
-    let a = head_at(s, at);
-    let Judgement::Whole(_, i) = a else {
-        return a;
-    };
-    let b = hexes(s, i, STATUS_DIGITS);
-    let Judgement::Whole(_, j) = b else {
-        return b;
-    };
-    stop(s, j, STATUS)
+    let head = head_at(s, at)?;
+    let fields = hexes(s, head.end, STATUS_DIGITS)?;
+    stop(s, fields.end, STATUS)
 }
 
-fn error_flags(s: &[u8], at: usize) -> Judgement
-    ensures { result ≡ judge_at (row e_pieces 6) at s.now }
+fn error_flags(s: &[u8], at: usize) -> Result<Parsed, Unparsed>
+    ensures { Judges (row e_pieces 6) at s.now (judgement_of result) }
 {
-    let a = hexes(s, at, FLAG_DIGITS);
-    let Judgement::Whole(_, i) = a else {
-        return a;
-    };
-    stop(s, i, ERROR)
+    let flags = hexes(s, at, FLAG_DIGITS)?;
+    stop(s, flags.end, ERROR)
 }
 
 fn kind_of(b: u8) -> Kind
@@ -196,27 +152,32 @@ fn kind_of(b: u8) -> Kind
     }
 }
 
+// A frame that stands at the first byte: its kind, and the offset behind it.
+fn frame(bytes: &[u8]) -> Result<Parsed, Unparsed>
+    ensures { Judges sirad 0 bytes.now (judgement_of result) }
+{
+    let Some(&first) = bytes.get(0) else {
+        return Err(Unparsed::Waiting);
+    };
+    if first != START_MARKER {
+        return Err(Unparsed::Bad(NO_START));
+    }
+    let Some(&identifier) = bytes.get(1) else {
+        return Err(Unparsed::Waiting);
+    };
+    match kind_of(identifier) {
+        Kind::Sized(kind) => data_frame(bytes, 2, kind),
+        Kind::Targets => target_list(bytes, 2),
+        Kind::Status => status_update(bytes, 2),
+        Kind::Flags => error_flags(bytes, 2),
+        Kind::Unknown => Err(Unparsed::Bad(NO_IDENTIFIER)),
+    }
+}
+
 // The judgement of the bytes from their first on; at an offset: `judge(&bytes[at..])`.
 // `judge(b"!E0000\r\n")` is Whole(6, 8), `judge(b"!E00")` is Waiting, `judge(b"!e")` is Bad(11).
 pub fn judge(bytes: &[u8]) -> Judgement
     ensures { Judges sirad 0 bytes.now result }
 {
-    if bytes.len() < 1 {
-        return Judgement::Waiting;
-    }
-    let first = bytes[0];
-    if first != START_MARKER {
-        return Judgement::Bad(NO_START);
-    }
-    if bytes.len() < 2 {
-        return Judgement::Waiting;
-    }
-    let kind = kind_of(bytes[1]);
-    match kind {
-        Kind::Sized(k) => data_frame(bytes, 2, k),
-        Kind::Targets => target_list(bytes, 2),
-        Kind::Status => status_update(bytes, 2),
-        Kind::Flags => error_flags(bytes, 2),
-        Kind::Unknown => Judgement::Bad(NO_IDENTIFIER),
-    }
+    Judgement::from(frame(bytes))
 }

@@ -2,88 +2,60 @@
 #![tactic(auto)]
 
 ghost use Rattle.std.specs.Prelude.{◌≡◌, true, ◌+◌, ◌≤◌, length};
+ghost use Rattle.std.specs.List.{list_all};
 ghost use Rattle.form.specs.Form.{judge_at};
-ghost use Rattle.form.specs.Numbers.{Judges};
-ghost use Rattle.sirad.specs.Classes.{Hex, Char};
+ghost use Rattle.form.specs.Numbers.{Judges, judgement_of};
+ghost use Rattle.sirad.specs.Classes.{Hex, Char, accepts};
 ghost use Rattle.sirad.specs.Rows.{behind_number};
 ghost use Rattle.sirad.specs.Sirad.{lay, run, block};
-ghost use Rattle.sirad.specs.Internal.{class_of, StepOf};
 
-use form::Judgement;
-use sirad::ByteClass;
-use sirad_bytes::is_of;
+use form::{Judgement, Parsed, Unparsed};
+use sirad_bytes::{ByteClass, Character, HexDigit, ZeroByte};
 use sirad_bytewise::{BLOCK_BYTES, block_slowly, span};
 
 // Bytes that are tested together; any number from 1 on would do.
 const CHUNK: usize = 64;
 
-// Whether all n bytes are of the class, without a branch on data; false says nothing.
-fn all_of(s: &[u8], from: usize, n: usize, c: ByteClass) -> bool
-    requires { from + n ≤ length s.now }
-    ensures { result ≡ true → judge_at (run n (class_of c)) from s.now ≡ Judgement.Whole 0 (from + n) }
+// Whether all bytes are of the class, without a branch on data.
+fn all_of<C: ByteClass>(bytes: &[u8]) -> bool
+    ensures { result ≡ list_all (accepts C.class) bytes.now }
 {
-    let mut ok = true;
-    let mut i: usize = 0;
-    while i < n {
-        let t = is_of(c, s[from + i]);
-        ok = digits::both(ok, t);
-        i = i + 1;
+    let mut all = true;
+    for b in bytes {
+        all = all & C::is_of(*b);
     }
-    ok
+    all
 }
 
-// n hex digits, tested together; one by one where they fail. With a class for a parameter the loop would ask for it at each byte.
-pub fn hexes(s: &[u8], from: usize, n: usize) -> Judgement
-    ensures { Judges (run n Hex) from s.now result }
+// n bytes of a class, tested together; one by one where one fails.
+fn run_of<C: ByteClass>(s: &[u8], from: usize, n: usize) -> Result<Parsed, Unparsed>
+    ensures { Judges (run n C.class) from s.now (judgement_of result) }
 {
-    if from <= s.len() {
-        if n <= s.len() - from {
-            if all_of(s, from, n, ByteClass::Hex) {
-                let end = from + n;
-                return Judgement::Whole(0, end);
-            }
-        }
+    if from <= s.len() && n <= s.len() - from && all_of::<C>(&s[from..from + n]) {
+        return Ok(Parsed {
+            value: 0,
+            end: from + n,
+        });
     }
-    span(s, from, n, ByteClass::Hex)
+    span::<C>(s, from, n)
 }
 
-// A few characters, in the same way.
-fn few_chars(s: &[u8], from: usize, n: usize) -> Judgement
-    ensures { result ≡ judge_at (run n Char) from s.now }
+// n hex digits.
+pub fn hexes(s: &[u8], from: usize, n: usize) -> Result<Parsed, Unparsed>
+    ensures { Judges (run n Hex) from s.now (judgement_of result) }
 {
-    if from <= s.len() {
-        if n <= s.len() - from {
-            if all_of(s, from, n, ByteClass::Char) {
-                let end = from + n;
-                return Judgement::Whole(0, end);
-            }
-        }
-    }
-    span(s, from, n, ByteClass::Char)
-}
-
-fn step_of(left: usize) -> usize
-    ensures { StepOf left result }
-{
-    if left < CHUNK { left } else { CHUNK }
+    run_of::<HexDigit>(s, from, n)
 }
 
 // n characters, a chunk at a time: a size off the wire costs no more than a chunk behind the byte that fails.
-pub fn chars(s: &[u8], from: usize, n: usize) -> Judgement
-    ensures { Judges (run n Char) from s.now result }
+pub fn chars(s: &[u8], from: usize, n: usize) -> Result<Parsed, Unparsed>
+    ensures { Judges (run n Char) from s.now (judgement_of result) }
 {
     let mut at = from;
-    let mut left = n;
-    while 0 < left {
-        let step = step_of(left);
-        let a = few_chars(s, at, step);
-        let Judgement::Whole(_, e) = a else {
-            return a;
-        };
-        at = e;
-        left = left - step;
+    for _ in 0..n / CHUNK {
+        at = run_of::<Character>(s, at, CHUNK)?.end;
     }
-    Judgement::Whole(0, at)
+    run_of::<Character>(s, at, n % CHUNK)
 }
 
 // Whether a target's bytes behind its number stand, without a branch on data; false says nothing.
@@ -91,13 +63,10 @@ fn seen_behind(s: &[u8], p: usize) -> bool
     requires { p + 14 ≤ length s.now }
     ensures { result ≡ true → judge_at (lay behind_number 0) (p + 1) s.now ≡ Judgement.Whole 0 (p + 14) }
 {
-    let a = all_of(s, p + 1, 4, ByteClass::Hex);
-    let b = all_of(s, p + 5, 1, ByteClass::Char);
-    let c = all_of(s, p + 6, 4, ByteClass::Hex);
-    let d = all_of(s, p + 10, 4, ByteClass::Char);
-    let e = digits::both(a, b);
-    let f = digits::both(c, d);
-    digits::both(e, f)
+    all_of::<HexDigit>(&s[p + 1..p + 5])
+        & all_of::<Character>(&s[p + 5..p + 6])
+        & all_of::<HexDigit>(&s[p + 6..p + 10])
+        & all_of::<Character>(&s[p + 10..p + 14])
 }
 
 // Whether a block stands, of the form that its first byte chooses; false says nothing.
@@ -105,23 +74,21 @@ fn seen_block(s: &[u8], p: usize) -> bool
     requires { p + 14 ≤ length s.now }
     ensures { result ≡ true → judge_at block p s.now ≡ Judgement.Whole 0 (p + 14) }
 {
-    let b = s[p];
-    if digits::is_hex(b) {
+    if digits::is_hex(s[p]) {
         return seen_behind(s, p);
     }
-    all_of(s, p, BLOCK_BYTES, ByteClass::Zero)
+    all_of::<ZeroByte>(&s[p..p + BLOCK_BYTES])
 }
 
-pub fn block_at(s: &[u8], from: usize) -> Judgement
-    ensures { Judges block from s.now result }
+// The block at an offset: tested at once, and byte by byte where one fails.
+pub fn block_at(s: &[u8], from: usize) -> Result<Parsed, Unparsed>
+    ensures { Judges block from s.now (judgement_of result) }
 {
-    if from <= s.len() {
-        if BLOCK_BYTES <= s.len() - from {
-            if seen_block(s, from) {
-                let end = from + BLOCK_BYTES;
-                return Judgement::Whole(0, end);
-            }
-        }
+    if from <= s.len() && BLOCK_BYTES <= s.len() - from && seen_block(s, from) {
+        return Ok(Parsed {
+            value: 0,
+            end: from + BLOCK_BYTES,
+        });
     }
     block_slowly(s, from)
 }

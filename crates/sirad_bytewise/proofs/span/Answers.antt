@@ -1,19 +1,20 @@
 -- What is left of the run is judged as the whole run is.
-use Rattle.form.proofs.PieceLaws.{judges}
-use mathlib.Core.Path.{refl, sym, ◌∙◌}
-use Rattle.sirad.proofs.Runs.{run_next, run_halts, run_over}
+use Rattle.form.proofs.PieceLaws.{all_left, none_done, left_by, left_ok, left_err, left_none}
+use Rattle.sirad.specs.Sirad.{run}
+use Rattle.sirad.proofs.Runs.{run_next, run_over}
 use Rattle.sirad_bytewise.proofs.span.Goals as goal
 
-pub loop-left-init : goal.loop-left-init
-loop-left-init c = refl
+pub loop-init : goal.loop-init
+loop-init g c = all_left (none_done (λ m. run m g.C.ByteClass.class) c.args.n)
 
-pub returns-in_default : goal.returns-in_default
-returns-in_default c =
-    judges (run_halts _ _ _ _ c.loop-left-test.true c.byte_of-a.ensures.answers c.in_default.not-Whole ∙ sym c.loop-left.invariant)
+pub returns-in_err-at : goal.returns-in_err-at
+returns-in_err-at g c =
+    left_err _ c.in_err-at.field-0.0 c.from_residual.result (left_by (run_next _ _ _ c.loop-test.true) c.loop.invariant)
+    c.in_err-at.ensures c.from_residual.ensures.1
 
-pub loop-left-preserved : goal.loop-left-preserved
-loop-left-preserved c =
-    c.loop-left.invariant ∙ run_next _ _ _ _ c.loop-left-test.true c.byte_of-a.ensures.answers c.in-Whole.is
+pub loop-preserved : goal.loop-preserved
+loop-preserved g c =
+    left_ok _ (left_by (run_next _ _ _ c.loop-test.true) c.loop.invariant) c.in_ok-at.ensures
 
 pub returns : goal.returns
-returns c = judges (run_over _ _ _ _ c.loop-left-test.false ∙ sym c.loop-left.invariant)
+returns g c = left_none (left_by (run_over _ _ _ c.loop-test.false) c.loop.invariant)

@@ -1,11 +1,7 @@
-use mathlib.Core.Path.{◌≡◌}
-use Rattle.form.specs.Form.{judge_at}
+use Rattle.std.proofs.Common.{◌-◌}
+use Rattle.form.proofs.PieceLaws.{Left}
 use Rattle.sirad.specs.Sirad.{run}
-use Rattle.sirad.specs.Internal.{class_of}
 use Rattle.sirad_bytewise.proofs.span.Given as goal
 
-abbrev pub invariant-loop-left : goal.invariant-loop-left
-invariant-loop-left l = judge_at (run l.n (class_of l.c)) l.from l.s ≡ judge_at (run l.left (class_of l.c)) l.at l.s
-
-abbrev pub decreases-loop-left : goal.decreases-loop-left
-decreases-loop-left l = l.left
+abbrev pub invariant-loop : goal.invariant-loop
+invariant-loop g l = Left (run l.n g.C.ByteClass.class) l.from (run (l.n - l.counter) g.C.ByteClass.class) l.at l.s

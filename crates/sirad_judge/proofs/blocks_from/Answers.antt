@@ -1,18 +1,20 @@
 -- What is left of the blocks is judged as all are.
-use mathlib.Core.Path.{refl, sym, ◌∙◌}
-use Rattle.sirad.proofs.FrameLaws.{blocks_next, blocks_halt, blocks_over}
+use Rattle.form.proofs.PieceLaws.{all_left, none_done, left_by, left_ok, left_err, left_is}
+use Rattle.sirad.specs.Rows.{blocks}
+use Rattle.sirad.specs.Sirad.{row}
+use Rattle.sirad.proofs.FrameLaws.{blocks_next, blocks_over}
 use Rattle.sirad_judge.proofs.blocks_from.Goals as goal
 
-pub loop-left-init : goal.loop-left-init
-loop-left-init c = refl
+pub loop-init : goal.loop-init
+loop-init c = all_left (none_done (λ m. row (blocks m) 4) c.args.n)
 
-pub returns-in_default : goal.returns-in_default
-returns-in_default c =
-    blocks_halt _ _ _ c.loop-left-test.true c.block_at-a.ensures.answers c.in_default.not-Whole ∙ sym c.loop-left.invariant
+pub returns-in_err-at : goal.returns-in_err-at
+returns-in_err-at c =
+    left_err _ c.in_err-at.field-0.0 c.from_residual.result (left_by (blocks_next _ _ c.loop-test.true) c.loop.invariant)
+    c.in_err-at.ensures c.from_residual.ensures.1
 
-pub loop-left-preserved : goal.loop-left-preserved
-loop-left-preserved c =
-    c.loop-left.invariant ∙ blocks_next _ _ _ c.loop-left-test.true c.block_at-a.ensures.answers c.in-Whole.is
+pub loop-preserved : goal.loop-preserved
+loop-preserved c = left_ok _ (left_by (blocks_next _ _ c.loop-test.true) c.loop.invariant) c.in_ok-at.ensures
 
 pub returns : goal.returns
-returns c = c.stop.ensures ∙ blocks_over _ _ _ c.loop-left-test.false ∙ sym c.loop-left.invariant
+returns c = left_is (left_by (blocks_over _ _ c.loop-test.false) c.loop.invariant) c.stop.ensures

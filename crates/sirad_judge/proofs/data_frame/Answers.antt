@@ -1,23 +1,23 @@
 -- The size, the run of reserved bytes and data, the stop marker.
-use mathlib.Core.Path.{sym, ◌∙◌}
-use Rattle.form.proofs.PieceLaws.{go_on, halt}
+use Rattle.std.proofs.Common.{refl}
+use Rattle.form.proofs.PieceLaws.{all_left, left_by, left_ok, left_err, left_is}
 use Rattle.sirad.specs.Rows.{data_pieces}
 use Rattle.sirad.specs.Sirad.{row}
 use Rattle.sirad.proofs.FrameLaws.{data_form}
 use Rattle.sirad_judge.proofs.data_frame.Goals as goal
 
-pub returns-in_default : goal.returns-in_default
-returns-in_default c = halt _ (λ n. row (data_pieces n) c.args.kind) _ _ c.hex_number-a.ensures c.in_default.not-Whole
+pub returns-in_err-size : goal.returns-in_err-size
+returns-in_err-size c =
+    left_err (λ n. row (data_pieces n) c.args.kind) c.in_err-size.field-0.0 c.from_residual.result (all_left refl)
+    c.in_err-size.ensures c.from_residual.ensures.1
 
-pub returns-in_default-b : goal.returns-in_default-b
-returns-in_default-b c =
-    halt _ _ _ _ c.chars-b.ensures.answers c.in_default-b.not-Whole
-    ∙ sym (data_form _ _ _ _)
-    ∙ sym (go_on _ (λ n. row (data_pieces n) c.args.kind) _ _ c.hex_number-a.ensures c.in-Whole.is)
+pub returns-in_err-data : goal.returns-in_err-data
+returns-in_err-data c =
+    let behind_size = left_ok (λ n. row (data_pieces n) c.args.kind) (all_left refl) c.in_ok-size.ensures in
+    left_err _ c.in_err-data.field-0.0 c.from_residual-in_err-data.result (left_by (data_form _ _) behind_size)
+    c.in_err-data.ensures c.from_residual-in_err-data.ensures.1
 
 pub returns : goal.returns
 returns c =
-    c.stop.ensures
-    ∙ sym (go_on _ _ _ _ c.chars-b.ensures.answers c.in-Whole-b.is)
-    ∙ sym (data_form _ _ _ _)
-    ∙ sym (go_on _ (λ n. row (data_pieces n) c.args.kind) _ _ c.hex_number-a.ensures c.in-Whole.is)
+    let behind_size = left_ok (λ n. row (data_pieces n) c.args.kind) (all_left refl) c.in_ok-size.ensures in
+    left_is (left_ok _ (left_by (data_form _ _) behind_size) c.in_ok-data.ensures) c.stop.ensures

@@ -1,13 +1,13 @@
 -- The digits, the stop marker.
-use mathlib.Core.Path.{sym, ◌∙◌}
-use Rattle.form.proofs.PieceLaws.{go_on, halt}
+use Rattle.form.proofs.PieceLaws.{all_left, left_ok, left_err, left_is}
 use Rattle.sirad.proofs.FrameLaws.{error_form}
 use Rattle.sirad_judge.proofs.error_flags.Goals as goal
 
-pub returns-in_default : goal.returns-in_default
-returns-in_default c =
-    halt _ _ _ _ c.hexes-a.ensures.answers c.in_default.not-Whole
-    ∙ sym (error_form _ _)
+pub returns-in_err-flags : goal.returns-in_err-flags
+returns-in_err-flags c =
+    left_err _ c.in_err-flags.field-0.0 c.from_residual.result (all_left error_form)
+    c.in_err-flags.ensures c.from_residual.ensures.1
 
 pub returns : goal.returns
-returns c = c.stop.ensures ∙ sym (go_on _ _ _ _ c.hexes-a.ensures.answers c.in-Whole.is) ∙ sym (error_form _ _)
+returns c =
+    left_is (left_ok _ (all_left error_form) c.in_ok-flags.ensures) c.stop.ensures

@@ -1,52 +1,47 @@
 -- The digits left, with the number so far in front of them, are judged as all are; i digits give a number below 16 ^ i.
-use lib.Dec.{lit<}
-use lib.ListN.{get_or}
-use mathlib.Core.Path.{sym, ◌∙◌}
-use native.Mathlib.Omega.{arith}
+use Rattle.std.proofs.Common.{lit<, ap, sym, ◌*◌, ◌+◌, ◌-◌, arith}
 use Rattle.digits.proofs.HexLaws.{digit_small, hex_grows}
-use Rattle.sirad.proofs.Numbers.{number_none, number_fits, number_ends, number_miss, number_hit, number_over}
+use Rattle.form.proofs.PieceLaws.{all_left, none_done, left_by, left_ok, left_err, left_none}
+use Rattle.sirad.specs.Sirad.{number}
+use Rattle.sirad.proofs.Numbers.{number_fits, number_next, number_over}
+use Rattle.sirad.proofs.Runs.{one_passed}
 use Rattle.sirad_judge.proofs.hex_number.Goals as goal
 
-pub loop-i-init : goal.loop-i-init
-loop-i-init c = (omega arith, lit< tt, number_none _ _ _)
+pub loop-init : goal.loop-init
+loop-init c = record { small = lit< tt; rest = all_left (none_done (λ m. number m 0) c.args.n) }
 
-pub returns-then-s-at : goal.returns-then-s-at
-returns-then-s-at c = number_ends _ _ _ _ _ c.loop-i-test.true c.if-s-at.true ∙ sym c.loop-i.invariant.2
+pub returns-in_err-read : goal.returns-in_err-read
+returns-in_err-read c =
+    left_err _ c.in_err-read.field-0.0 c.from_residual.result (left_by (number_next _ _ _ c.loop-test.true) c.loop.invariant.rest)
+    c.in_err-read.ensures c.from_residual.ensures.1
 
-pub digit_of-d-requires : goal.digit_of-d-requires
-digit_of-d-requires c = sym c.is_hex.ensures ∙ c.if-is_hex.true
+pub overflow_mul-value : goal.overflow_mul-value
+overflow_mul-value c =
+    let l = c.loop in
+    omega (arith, number_fits l.counter c.args.n l.value c.loop-test.true c.requires l.invariant.small)
 
-pub overflow_mul-v : goal.overflow_mul-v
-overflow_mul-v c =
-    let l = c.loop-i in
-    omega (arith, number_fits l.i c.args.n l.v c.loop-i-test.true c.requires l.invariant.1)
+pub digit_of-requires : goal.digit_of-requires
+digit_of-requires c = one_passed _ _ _ _ _ _ c.in_ok-read.ensures.answers
 
-pub overflow_add-v : goal.overflow_add-v
-overflow_add-v c =
-    let l = c.loop-i in
-    let a = c.args in
+pub overflow_add-value : goal.overflow_add-value
+overflow_add-value c =
+    let l = c.loop in
     omega (
       arith,
-      number_fits l.i a.n l.v c.loop-i-test.true c.requires l.invariant.1,
-      digit_small (get_or a.s.now l.at 0),
-      c.digit_of-d.ensures,
+      number_fits l.counter c.args.n l.value c.loop-test.true c.requires l.invariant.small,
+      digit_small c.in_ok-read.read.value,
+      c.digit_of.ensures,
     )
 
-pub loop-i-preserved : goal.loop-i-preserved
-loop-i-preserved c =
-    let l = c.loop-i in
-    let a = c.args in
-    let hex = sym c.is_hex.ensures ∙ c.if-is_hex.true in (
-      omega arith,
-      hex_grows l.i l.v c.digit_of-d.result l.invariant.1
-          (omega (arith, digit_small (get_or a.s.now l.at 0), c.digit_of-d.ensures)),
-      l.invariant.2
-          ∙ number_hit _ _ _ _ _ c.loop-i-test.true c.if-s-at.false hex c.digit_of-d.ensures,
-    )
-
-pub returns-else-is_hex : goal.returns-else-is_hex
-returns-else-is_hex c =
-    number_miss _ _ _ _ _ c.loop-i-test.true c.if-s-at.false (sym c.is_hex.ensures ∙ c.if-is_hex.false) ∙ sym c.loop-i.invariant.2
+pub loop-preserved : goal.loop-preserved
+loop-preserved c =
+    let l = c.loop in
+    record {
+      small = hex_grows l.counter l.value c.digit_of.result l.invariant.small
+          (omega (arith, digit_small c.in_ok-read.read.value, c.digit_of.ensures));
+      rest = left_by (ap (λ d. number (c.args.n - (l.counter + 1)) (l.value * 16 + d)) (sym c.digit_of.ensures))
+          (left_ok _ (left_by (number_next _ _ _ c.loop-test.true) l.invariant.rest) c.in_ok-read.ensures);
+    }
 
 pub returns : goal.returns
-returns c = number_over _ _ _ _ _ c.loop-i-test.false ∙ sym c.loop-i.invariant.2
+returns c = left_none (left_by (number_over _ _ _ c.loop-test.false) c.loop.invariant.rest)

@@ -1,26 +1,30 @@
--- What is left of the run is judged as the whole run is; each turn takes a part of it.
-use Rattle.form.proofs.PieceLaws.{judges}
-use mathlib.Core.Path.{refl, sym, ◌∙◌}
-use native.Mathlib.Omega.{arith}
-use Rattle.sirad.proofs.Runs.{run_over, part_next, part_halts}
+-- What is left of the run is judged as the whole run is; each turn takes a chunk of it.
+use Rattle.std.proofs.Common.{◌≡◌, ◌+◌, ◌-◌, ◌*◌, ◌%◌, ap, arith}
+use Rattle.form.proofs.PieceLaws.{all_left, none_done, left_by, left_ok, left_err, left_is}
+use Rattle.sirad.specs.Classes.{Char}
+use Rattle.sirad.specs.Sirad.{run}
+use Rattle.sirad.proofs.Runs.{run_part}
 use Rattle.sirad_pieces.proofs.chars.Goals as goal
 
-pub loop-left-init : goal.loop-left-init
-loop-left-init c = refl
+pub loop-init : goal.loop-init
+loop-init c = all_left (none_done (λ m. run m Char) c.args.n)
 
-pub returns-in_default : goal.returns-in_default
-returns-in_default c =
-    judges (part_halts _ _ _ _ _ c.step_of-step.ensures.most c.few_chars-a.ensures c.in_default.not-Whole ∙ sym c.loop-left.invariant)
+pub returns-in_err-at : goal.returns-in_err-at
+returns-in_err-at c =
+    let i = c.loop.counter in
+    left_err _ c.in_err-at.field-0.0 c.from_residual.result
+    (left_by (run_part 64 (64 * i) (64 * (i + 1)) c.args.n Char (omega arith) (omega arith)) c.loop.invariant)
+    c.in_err-at.ensures c.from_residual.ensures.1
 
-pub overflow_sub-left : goal.overflow_sub-left
-overflow_sub-left c = omega (arith, c.step_of-step.ensures.most)
-
-pub loop-left-smaller : goal.loop-left-smaller
-loop-left-smaller c = omega (arith, c.step_of-step.ensures.most, c.step_of-step.ensures.some c.loop-left-test.true)
-
-pub loop-left-preserved : goal.loop-left-preserved
-loop-left-preserved c =
-    c.loop-left.invariant ∙ part_next _ _ _ _ _ c.step_of-step.ensures.most c.few_chars-a.ensures c.in-Whole.is
+pub loop-preserved : goal.loop-preserved
+loop-preserved c =
+    let i = c.loop.counter in
+    left_ok _ (left_by (run_part 64 (64 * i) (64 * (i + 1)) c.args.n Char (omega arith) (omega arith)) c.loop.invariant)
+    c.in_ok-at.ensures
 
 pub returns : goal.returns
-returns c = judges (run_over _ _ _ _ c.loop-left-test.false ∙ sym c.loop-left.invariant)
+returns c =
+    let i = c.loop.counter in
+    let n = c.args.n in
+    let rest : n - 64 * i ≡ n % 64 = omega arith in
+    left_is (left_by (ap (λ m. run m Char) rest) c.loop.invariant) c.run_of-2.ensures

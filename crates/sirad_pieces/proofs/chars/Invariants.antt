@@ -1,11 +1,8 @@
-use mathlib.Core.Path.{◌≡◌}
-use Rattle.form.specs.Form.{judge_at}
-use Rattle.sirad.specs.Sirad.{run}
+use Rattle.std.proofs.Common.{◌-◌, ◌*◌}
+use Rattle.form.proofs.PieceLaws.{Left}
 use Rattle.sirad.specs.Classes.{Char}
+use Rattle.sirad.specs.Sirad.{run}
 use Rattle.sirad_pieces.proofs.chars.Given as goal
 
-abbrev pub invariant-loop-left : goal.invariant-loop-left
-invariant-loop-left l = judge_at (run l.n Char) l.from l.s ≡ judge_at (run l.left Char) l.at l.s
-
-abbrev pub decreases-loop-left : goal.decreases-loop-left
-decreases-loop-left l = l.left
+abbrev pub invariant-loop : goal.invariant-loop
+invariant-loop l = Left (run l.n Char) l.from (run (l.n - 64 * l.counter) Char) l.at l.s
