@@ -6,7 +6,7 @@
 -- the number rules that their answers are `millimetres` and `accuracy_millimetres`: so what is said of these is said of the answers.
 -- Lists hold any numbers; `Bytes` says that each is below 256 where a theorem needs it.
 use Rattle.std.specs.Prelude.{Bool, true, false, ◌≡◌, List, [], ◌∷◌, ◌++◌, map, ◌↔◌, ◌⊎◌, ℕ, suc, ◌+◌, ◌*◌, ◌%◌, ◌^◌, ◌<◌, ◌≤◌, ℤ}
-use Rattle.std.specs.Prelude.{pos, length, drop}
+use Rattle.std.specs.Prelude.{pos, length, drop, Ok}
 use Rattle.digits.specs.Bytes.{Bytes}
 use Rattle.digits.specs.LittleEndian.{little_at}
 use Rattle.form.specs.Form.{Frame, Stands, Completable}
@@ -165,8 +165,8 @@ MillimetresNearest =
 -- so is an accuracy's, of its tenths
 abbrev pub AccuracyNearest : Type 0
 AccuracyNearest =
-    (edition tenths : ℕ) → (accuracy_millimetres edition tenths).refusal ≡ 0 → (z : ℤ)
-    → (pos (accuracy_millimetres edition tenths).millimetres ≡ z) ↔ Rounds (ties_of edition) false tenths 10 z
+    (edition tenths m : ℕ) → accuracy_millimetres edition tenths ≡ Ok m → (z : ℤ)
+    → (pos m ≡ z) ↔ Rounds (ties_of edition) false tenths 10 z
 
 -- "they differ only at exact halves" (paper 02, (iv)), and there by one: edition 1 is further from zero
 abbrev pub EditionsDiffer : Type 0
@@ -181,7 +181,7 @@ abbrev pub AccuraciesDiffer : Type 0
 AccuraciesDiffer =
     (tenths : ℕ)
     → (accuracy_millimetres 2 tenths ≡ accuracy_millimetres 1 tenths)
-    ⊎ (Half tenths 10 × ((accuracy_millimetres 1 tenths).millimetres ≡ suc (accuracy_millimetres 2 tenths).millimetres))
+    ⊎ (Half tenths 10 × ((m : ℕ) × (accuracy_millimetres 2 tenths ≡ Ok m) × (accuracy_millimetres 1 tenths ≡ Ok (suc m))))
 
 -- with any room, the closed reading says "none", no row with state 2, exactly if no frame stands anywhere
 abbrev pub NoneExactlyIfNoneStands : Type 0

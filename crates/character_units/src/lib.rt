@@ -2,13 +2,12 @@
 // A phase is worked out half a turn on, so that nothing is negative before the last step.
 #![tactic(auto)]
 
-ghost use Rattle.std.specs.Prelude.{◌≡◌};
-ghost use Rattle.units.specs.Units.{refused, decibels, centidegrees};
+ghost use Rattle.std.specs.Prelude.{◌≡◌, if◌then◌else◌, Ok, Err};
+ghost use Rattle.refusals.specs.declared.Refusal.TheVariants.{NoEncoding};
+ghost use Rattle.digits.specs.Bytes.{is_character};
+ghost use Rattle.units.specs.Units.{quantity_of, decibels, centidegrees};
 
-use units::Quantity;
-
-// Refused: a byte that is no character (paper 01, "Refusal numbers").
-const NO_ENCODING: u32 = 50;
+use refusals::Refusal;
 
 // The characters that mean 0 dB and a phase of 0.
 const ZERO_DECIBELS: i32 = 174;
@@ -28,43 +27,33 @@ const HALF_PHASE: u32 = 1024;
 
 const PHASE_BITS: u32 = 11;
 
-// A refusal: its number, and the value 0.
-fn refusal_of(number: u32) -> Quantity
-    ensures { result ≡ refused number }
+// The byte, if it is a character.
+fn checked(byte: u8) -> Result<u8, Refusal>
+    ensures { result ≡ (if is_character byte then Ok byte else Err NoEncoding) }
 {
-    Quantity {
-        refusal: number,
-        value: 0,
+    if digits::is_character(byte) {
+        Ok(byte)
+    } else {
+        Err(Refusal::NoEncoding)
     }
 }
 
-// What a character means in dB: 90 (`Z`) is -84, and 33 is refused with 50.
-pub fn decibels_of(character: u8) -> Quantity
-    ensures { result ≡ decibels character }
+// What a character means in dB: 90 (`Z`) is -84, and 33 is refused.
+#[tactic(auto, unfolding(units::specs::Units::decibels))]
+pub fn decibels_of(character: u8) -> Result<i32, Refusal>
+    ensures { quantity_of result ≡ decibels character }
 {
-    if digits::is_character(character) {
-        let level = (character as i32) - ZERO_DECIBELS;
-        return Quantity {
-            refusal: 0,
-            value: level,
-        };
-    }
-    refusal_of(NO_ENCODING)
+    let level = checked(character)? as i32;
+    Ok(level - ZERO_DECIBELS)
 }
 
-// What a character means as a phase, in hundredths of a degree: 90 (`Z`) is -8836, and 33 is refused with 50.
+// What a character means as a phase, in hundredths of a degree: 90 (`Z`) is -8836, and 33 is refused.
 // No division, loop, recursion or table (paper 02, (v)): a multiplication and a shift, half a turn on.
-pub fn centidegrees_of(character: u8) -> Quantity
-    ensures { result ≡ centidegrees character }
+#[tactic(auto, unfolding(units::specs::Units::centidegrees), using(crate::proofs::CharacterLaws::turned_back))]
+pub fn centidegrees_of(character: u8) -> Result<i32, Refusal>
+    ensures { quantity_of result ≡ centidegrees character }
 {
-    if digits::is_character(character) {
-        let steps = (character as u32) + HALF_TURN_STEPS - ZERO_PHASE;
-        let turned = (PHASE_STEP * steps + HALF_PHASE) >> PHASE_BITS;
-        let phase = (turned as i32) - HALF_TURN;
-        return Quantity {
-            refusal: 0,
-            value: phase,
-        };
-    }
-    refusal_of(NO_ENCODING)
+    let steps = (checked(character)? as u32) + HALF_TURN_STEPS - ZERO_PHASE;
+    let turned = (PHASE_STEP * steps + HALF_PHASE) >> PHASE_BITS;
+    Ok((turned as i32) - HALF_TURN)
 }

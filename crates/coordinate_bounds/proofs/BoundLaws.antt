@@ -1,28 +1,30 @@
 -- The search for a distance's bound: what is within stays within for lesser bits, so halving the bits between one that is and one that is
 -- not ends at the greatest that is.
 use mathlib.Core.Bool.{true, false}
-use mathlib.Core.Path.{◌≡◌, refl, sym, ap, subst, ◌∙◌}
+use mathlib.Core.Path.{◌≡◌, refl, sym, ap, ◌∙◌}
 use mathlib.Core.Logic.{◌⊎◌, inl, inr}
 use Prim.Native.Nat.{ℕ, ◌+◌, ◌*◌, ◌/◌, ◌%◌, ◌^◌, ◌<◌, ◌≤◌}
 use native.Mathlib.Nat.{mul-le-mul_left, le_trans}
 use native.Mathlib.Omega.{arith}
 use native.Mathlib.Decide.{dec_lt}
-use lib.Dec.{eqb, leb, lit<, T}
-use lib.IntN.{pos, nat_abs}
-use lib.Signed.{non_neg}
-use mir.Syntax.{w32}
-use mir.Val.{Fits, SFits, to_z, of_z}
-use mir.Facts.{to_z-of_z}
-use borrow.Author.Tests.{eqb-true, eq-eqb, ne_eqb, leb-true, leb-false, le-leb, lt-leb, lt-ltb, le-ltb}
+use lib.Dec.{eqb, leb, lit<}
+use lib.IntN.{nat_abs}
+use borrow.Author.Tests.{eqb-true, eq-eqb, leb-true, leb-false, le-leb, lt-leb, lt-ltb, le-ltb}
 use Rattle.digits.proofs.Choices.{test, either, both_ways, and_parts, and_both}
-use Rattle.units.specs.declared.Quantity.{Quantity}
+use Rattle.std.specs.Prelude.{Ok, Err}
+use Rattle.std.specs.Result.{result_unwrap_or}
+use Rattle.refusals.specs.declared.Refusal.{Refusal}
+use Rattle.refusals.specs.declared.Refusal.TheVariants.{TooDistant}
+use Rattle.refusals.specs.Numbers.{refusal_number}
+use Rattle.refusals.proofs.NumberLaws.{number_ne0}
+use Rattle.units.specs.declared.Ties.{Ties}
 use Rattle.units.specs.Float.{negative, significand, scale, magnitude}
 use Rattle.units.specs.Rounding.{nearest}
-use Rattle.units.specs.Units.{Edition, ties_of, coordinate, millimetres}
-use Rattle.units.proofs.Bits.{within_limit, limit_bits}
+use Rattle.units.specs.Units.{Edition, ties_of, ties_named, coordinate, millimetres}
+use Rattle.units.proofs.Bits.{limit_bits}
 use Rattle.units.proofs.Rising.{nearest_rises, magnitude_rises}
 use Rattle.units.proofs.Rounding.{nat_abs_signed}
-use Rattle.units.proofs.Theorems.{edition_exactly, no_edition, millimetres_0, millimetres_32, given}
+use Rattle.units.proofs.Theorems.{edition_exactly, no_edition, named, unnamed, millimetres_0, given}
 use Rattle.coordinate_bounds.specs.Bounds.{is_within, max_distance, sign_last, Bounds, Greatest}
 
 -- of 32 bits the first is the sign
@@ -69,30 +71,6 @@ module _ (edition d : ℕ) where
   unfolding millimetres coordinate ties_of significand scale nearest
   nought (inl e) = rw e (le-leb 0 d (omega arith))
   nought (inr e) = rw e (le-leb 0 d (omega arith))
-
-  -- -- One float
-
-  module _ (bits : ℕ) (q : Quantity) (e : q ≡ millimetres edition bits) where
-    -- a float that is refused is not within
-    pub refused_not_within : (q.refusal ≡ 0 → ⊥) → false ≡ is_within d (millimetres edition bits)
-    refused_not_within n = rw (← e, ne_eqb q.refusal 0 n) refl
-
-    module _ (sure : q.refusal ≡ 0) (fits : SFits w32 q.value) where
-      held : to_z w32 (of_z w32 q.value) ≡ q.value
-      held = to_z-of_z {w = w32} fits
-
-      -- without a sign its millimetres are a natural number
-      pub natural : bits < 2 ^ 31 → T (non_neg (to_z w32 (of_z w32 q.value))) × Fits w32 (nat_abs (to_z w32 (of_z w32 q.value)))
-      natural l =
-          let m = nearest (ties_of edition) (1000 * magnitude bits) (2 ^ 150) in
-          let plain : q.value ≡ pos m = ap (λ (x : Quantity). x.value) e ∙ given edition bits (rw e at sure)
-          ∙ rw (ne_eqb (bits / 2 ^ 31) 1 (λ x. omega arith)) refl in
-          let most = (subst (SFits w32) plain fits).sfits in
-          rw (held, plain) (tt, record { fits = omega arith })
-
-      -- and it is within exactly if they are at most the distance
-      pub measured : leb (nat_abs (to_z w32 (of_z w32 q.value))) d ≡ is_within d (millimetres edition bits)
-      measured = rw (← e, held, eq-eqb q.refusal 0 sure) refl
 
   -- -- The search
 
@@ -142,29 +120,28 @@ module _ (edition d : ℕ) where
 
   -- -- The answer
 
-  module _ (q : Quantity) (e : q ≡ millimetres edition 0) where
-    -- an edition that there is refuses no float 0, any other every float
-    nought_sure : q.refusal ≡ 0 → Edition edition
-    nought_sure h = ((millimetres_0 edition 0).0 (rw e at h)).0
+  -- an edition that there is none of has no rule
+  pub bound_no_edition : (why : Refusal) → Err why ≡ ties_named edition → Bounds edition d (Err why)
+  bound_no_edition why e = record {
+    refuses = let told = unnamed edition why (sym e) in rw (told.0, (no_edition edition).1 told.1);
+    tells = λ limit z. absurd (number_ne0 why (ap refusal_number z));
+  }
 
-    pub bound_no_edition : (q.refusal ≡ 0 → ⊥) → Bounds edition d (record { refusal = q.refusal; limit = 0 })
-    bound_no_edition n =
-        let small = within_limit 0 (omega arith) in
-        let unsure : Edition edition → ⊥ = λ ed. n (rw e ((millimetres_0 edition 0).1 (ed, (λ x. omega arith), small))) in
-        let told : q.refusal ≡ 32 = rw e ((millimetres_32 edition 0).1 unsure) in
-        record { refuses = rw (told, (no_edition edition).1 unsure); tells = λ z. absurd (n z); zero = λ z. refl }
+  module _ (ties : Ties) (e : Ok ties ≡ ties_named edition) where
+    named_edition : Edition edition
+    named_edition = named edition ties (sym e)
 
-    pub bound_too_distant : q.refusal ≡ 0 → max_distance < d → Bounds edition d (record { refusal = 33; limit = 0 })
-    bound_too_distant h l = record {
-      refuses = rw ((edition_exactly edition).1 (nought_sure h), lt-ltb max_distance d l);
-      tells = λ z. absurd (omega arith);
-      zero = λ z. refl;
+    pub bound_too_distant : max_distance < d → Bounds edition d (Err TooDistant)
+    bound_too_distant l = record {
+      refuses = rw ((edition_exactly edition).1 named_edition, lt-ltb max_distance d l);
+      tells = λ limit z. absurd (number_ne0 TooDistant (ap refusal_number z));
     }
 
-    pub bound_found : (bits : ℕ) → q.refusal ≡ 0 → d ≤ max_distance → Greatest edition d bits
-        → Bounds edition d (record { refusal = 0; limit = 2 * bits + 1 })
-    bound_found bits h l g = record {
-      refuses = rw ((edition_exactly edition).1 (nought_sure h), le-ltb max_distance d l);
-      tells = λ z b. g.exactly (nought_sure h) b ∙ sign_last_most b bits;
-      zero = λ z. absurd (z refl);
+    pub bound_found : (bits : ℕ) → d ≤ max_distance → Greatest edition d bits → Bounds edition d (Ok (2 * bits + 1))
+    bound_found bits l g = record {
+      refuses = rw ((edition_exactly edition).1 named_edition, le-ltb max_distance d l);
+      tells = λ limit z b.
+          g.exactly named_edition b
+          ∙ sign_last_most b bits
+          ∙ ap (λ (n : ℕ). leb (sign_last b) n) (ap (λ r. result_unwrap_or r 0) z);
     }

@@ -1,8 +1,9 @@
 -- The coordinates within a distance, and the bound on a float's bits that tells them (paper 02, (vi)).
-use Rattle.std.specs.Prelude.{Bool, ◌&&◌, cond, ◌≡◌, ℕ, ◌+◌, ◌*◌, ◌/◌, ◌%◌, ◌^◌, ◌<◌, eqb, leb, ltb, nat_abs}
+use Rattle.std.specs.Prelude.{Bool, ◌&&◌, cond, ◌≡◌, ℕ, ◌+◌, ◌*◌, ◌/◌, ◌%◌, ◌^◌, ◌<◌, eqb, leb, ltb, nat_abs, Result, Ok}
+use Rattle.refusals.specs.declared.Refusal.{Refusal}
+use Rattle.refusals.specs.Numbers.{refusal_number}
 use Rattle.units.specs.declared.Quantity.{Quantity}
 use Rattle.units.specs.Units.{Edition, is_edition, millimetres}
-use Rattle.coordinate_bounds.specs.declared.Bound.{Bound}
 
 -- a coordinate is within d millimetres: it is not refused, and at most d in magnitude (paper 02, (vi))
 abbrev pub is_within : ℕ → Quantity → Bool
@@ -24,11 +25,10 @@ sign_last bits = 2 * (bits % 2 ^ 31) + bits / 2 ^ 31 % 2
 abbrev pub Tells : ℕ → ℕ → ℕ → Type 0
 Tells edition d limit = (bits : ℕ) → is_within d (millimetres edition bits) ≡ leb (sign_last bits) limit
 
--- the limit of a distance, or a refusal with the limit 0
-pub record Bounds (edition d : ℕ) (r : Bound) : Type 0 where
-  pub refuses : r.refusal ≡ bound_refusal edition d
-  pub tells : r.refusal ≡ 0 → Tells edition d r.limit
-  pub zero : (r.refusal ≡ 0 → ⊥) → r.limit ≡ 0
+-- the limit of a distance, or a refusal
+pub record Bounds (edition d : ℕ) (r : Result ℕ Refusal) : Type 0 where
+  pub refuses : refusal_number r ≡ bound_refusal edition d
+  pub tells : (limit : ℕ) → r ≡ Ok limit → Tells edition d limit
 
 -- -- The code's own contracts
 

@@ -1,34 +1,24 @@
 // The bound of a distance: which floats in metres are within it, by their bits alone (paper 02, (vi)).
 #![tactic(auto)]
 
-ghost use Rattle.std.specs.Prelude.{◌≡◌, ◌^◌, ◌<◌};
+ghost use Rattle.std.specs.Prelude.{◌≡◌};
 ghost use Rattle.units.specs.Units.{millimetres};
 ghost use Rattle.coordinate_bounds.specs.Bounds.{is_within, sign_last, Bounds, Greatest};
 
-use units::{LIMIT_BITS, SIGN};
+use refusals::Refusal;
+use units::{LIMIT_BITS, SIGN, Ties};
 
-// Refused: a distance over the greatest (paper 02, (vi)).
-const TOO_DISTANT: u32 = 33;
-
+// The greatest distance that is asked for, in millimetres (paper 02, (vi)).
 const MAX_DISTANCE: u32 = 1000000;
 
-// The limit of the bits, with the sign last, of the floats within a distance; or the refusal number with the limit 0.
-#[derive(Clone, Copy)]
-pub struct Bound {
-    pub refusal: u32,
-    pub limit: u32,
-}
-
-// Whether the float with these bits and no sign is within the distance.
+// Whether the float with these bits is within the distance.
 fn is_within(edition: u32, distance: u32, bits: u32) -> bool
-    requires { bits < 2 ^ 31 }
     ensures { result ≡ is_within distance (millimetres edition bits) }
 {
-    let q = units::coordinate_to_millimetres(edition, bits);
-    if q.refusal != 0 {
-        return false;
+    match units::coordinate_to_millimetres(edition, bits) {
+        Ok(z) => z.unsigned_abs() <= distance,
+        Err(_) => false,
     }
-    q.value as u32 <= distance
 }
 
 // The greatest bits of a float within the distance, by an edition that there is: each turn halves the bits between one that is within and
@@ -57,26 +47,17 @@ pub fn sign_last(bits: u32) -> u32
     2 * (bits % SIGN) + bits / SIGN
 }
 
-// The limit of a distance in millimetres, by an edition; 32, then 33. The millimetres rise with the bits: a coordinate is within the
-// distance exactly if its bits, with the sign last, are at most the limit. Every edition takes the float 0.
+// The limit of a distance in millimetres, by an edition; an unknown edition is refused, then a distance over the greatest. The millimetres
+// rise with the bits: a coordinate is within the distance exactly if its bits, with the sign last, are at most the limit. Every edition
+// takes the float 0.
 // The limit of 62 mm is 7AFFFFFF in edition 1 and, with 0.0625 m (3D800000) in it, 7B000001 in edition 2.
-pub fn limit_of(edition: u32, distance: u32) -> Bound
+pub fn limit_of(edition: u32, distance: u32) -> Result<u32, Refusal>
     ensures { Bounds edition distance result }
 {
-    let nought = units::coordinate_to_millimetres(edition, 0);
-    if nought.refusal != 0 {
-        return Bound {
-            refusal: nought.refusal,
-            limit: 0,
-        };
-    }
+    Ties::try_from(edition)?;
     if MAX_DISTANCE < distance {
-        return Bound {
-            refusal: TOO_DISTANT,
-            limit: 0,
-        };
+        return Err(Refusal::TooDistant);
     }
     let bits = greatest(edition, distance);
-    let limit = 2 * bits + 1;
-    Bound { refusal: 0, limit }
+    Ok(2 * bits + 1)
 }

@@ -1,25 +1,24 @@
 -- The proofs of specs/Demand1.antt: the tests of each answer's definition, in their order, each with its words.
-use mathlib.Core.Bool.{Bool, true, false}
-use mathlib.Core.Path.{◌≡◌, refl, sym, ap, ◌∙◌}
+use mathlib.Core.Bool.{Bool, true}
+use mathlib.Core.Path.{◌≡◌, refl, sym}
 use mathlib.Core.List.{List}
 use mathlib.Core.Logic.{◌↔◌, inl, inr}
-use Prim.Native.Nat.{ℕ, zero, suc, ◌+◌, ◌*◌, ◌^◌, ◌<◌, ◌≤◌}
+use Prim.Native.Nat.{ℕ, zero, suc, ◌*◌, ◌^◌, ◌<◌, ◌≤◌}
 use native.Mathlib.Omega.{arith}
 use native.Mathlib.Decide.{dec_lt}
 use lib.Dec.{eqb, ltb}
 use lib.ListN.{length, drop}
-use borrow.Author.Tests.{lt-ltb, le-ltb, le-leb, ltb-true, ltb-false, eq-eqb, ne_eqb, eqb-true, eqb-false}
+use borrow.Author.Tests.{lt-ltb, le-ltb, le-leb, ltb-true, ltb-false, eq-eqb, eqb-true}
 use Rattle.digits.specs.Bytes.{is_character}
-use Rattle.digits.proofs.Choices.{test, both_ways, and_both, within_bounds}
+use Rattle.digits.proofs.Choices.{test, within_bounds}
 use Rattle.form.specs.declared.Judgement.{Judgement}
 use Rattle.form.specs.declared.Judgement.TheVariants.{Whole, Bad, Waiting}
 use Rattle.form.specs.declared.JudgementNumbers.{JudgementNumbers}
 use Rattle.reading.specs.Answers.{refused, room_in}
 use Rattle.reading.specs.declared.Answer.{Answer}
 use Rattle.units.specs.Float.{exponent, magnitude, not_finite}
-use Rattle.units.specs.Units.{is_edition, Edition, decibels, centidegrees, accuracy_millimetres, no_millimetres, coordinate, millimetres}
+use Rattle.units.specs.Units.{is_edition, Edition, decibels, centidegrees, accuracy_millimetres, coordinate, millimetres}
 use Rattle.units.specs.Units as numbers
-use Rattle.units.specs.declared.Accuracy.{Accuracy}
 use Rattle.units.specs.declared.Quantity.{Quantity}
 use Rattle.units.proofs.Theorems.{edition_exactly}
 use Rattle.sirad.specs.Table.{TableFrame}
@@ -32,7 +31,6 @@ use Rattle.sirad_fields.specs.declared.StatusFrame.{StatusFrame}
 use Rattle.sirad_fields.specs.declared.ErrorFrame.{ErrorFrame}
 use Rattle.sirad_fields.proofs.FrameLaws.{data_range}
 use Rattle.sirad_fields.proofs.ReadsExactly.{kind_by_table}
-use Rattle.demorad.specs.Reading.{refused_command, read_command}
 use Rattle.demorad.proofs.RoundTrips.{refused_zero}
 use Rattle.demorad.proofs.RefusedFirst.{refused_first}
 use Rattle.capture.specs.Dialects.{dialect_of, judge_of}
@@ -41,9 +39,8 @@ use Rattle.capture.specs.Lines.{empty_part, part_of}
 use Rattle.std.specs.declared.option.Option.TheVariants.{Some, None}
 use Rattle.capture.specs.declared.Dialect.{Dialect}
 use Rattle.capture.specs.declared.Dialect.TheVariants.{Sirad, Packets}
-use Rattle.capture.specs.declared.Verdict.{Verdict}
 use Rattle.capture.specs.declared.Verdict.TheVariants.{Refused, Judged}
-use Rattle.capture.proofs.EntryLaws.{unknown_refused, verdict_long, verdict_beyond, verdict_judged}
+use Rattle.capture.proofs.EntryLaws.{unknown_refused}
 use Rattle.capture.proofs.LineLaws.{unknown_part, main_long, standby_long}
 use Rattle.capture.proofs.Wires.{dialect_none}
 use Rattle.mmwave.specs.declared.PacketDialect.TheVariants.{MmWave, VitalSigns}
@@ -219,9 +216,8 @@ phase_refuses c =
 pub accuracy_refuses : say.AccuracyRefuses
 unfolding accuracy_millimetres
 accuracy_refuses edition tenths =
-    unless_test no_millimetres (λ (a : Accuracy). a.refusal) (λ n. refl) none 32 (is_edition edition) (edition_exactly edition)
-    (accuracy_millimetres edition tenths) (λ f. rw f)
-    (λ y. fine no_millimetres (λ (a : Accuracy). a.refusal) (λ n. refl) (accuracy_millimetres edition tenths) (rw y))
+    test (is_edition edition) (λ t. inr ((edition_exactly edition).0 t, rw t))
+    (λ f. inl ((fails_exactly (edition_exactly edition)).0 f, rw f))
 
 pub millimetres_refuse : say.MillimetresRefuse
 unfolding millimetres coordinate

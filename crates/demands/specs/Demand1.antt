@@ -3,15 +3,14 @@
 -- That no input stops or harms an entry is what the check of each function says: it is safe and returns on every input, for no entry asks
 -- its caller for anything. Below: which number is given when, in the order of paper 01, "Refusal numbers", with the
 -- entry whose promise is the definition that it is said of. What writers refuse stands in Writing.antt.
-use Rattle.std.specs.Prelude.{Bool, ◌≡◌, List, ℕ, ◌+◌, ◌*◌, ◌^◌, ◌<◌, ◌≤◌, length}
-use Rattle.digits.specs.Bytes.{is_character}
+use Rattle.std.specs.Prelude.{Bool, ◌≡◌, List, ℕ, ◌*◌, ◌^◌, ◌<◌, ◌≤◌, length}
+use Rattle.refusals.specs.Numbers.{refusal_number}
 use Rattle.form.specs.declared.JudgementNumbers.{JudgementNumbers}
 use Rattle.reading.specs.Answers.{refused, room_in}
 use Rattle.reading.specs.declared.Answer.{Answer}
 use Rattle.units.specs.Float.{exponent, magnitude}
-use Rattle.units.specs.Units.{decibels, centidegrees, Edition, no_millimetres, accuracy_millimetres, millimetres}
+use Rattle.units.specs.Units.{decibels, centidegrees, Edition, accuracy_millimetres, millimetres}
 use Rattle.units.specs.Units as numbers
-use Rattle.units.specs.declared.Accuracy.{Accuracy}
 use Rattle.units.specs.declared.Quantity.{Quantity}
 use Rattle.sirad.specs.Table.{TableFrame}
 use Rattle.sirad_fields.specs.Fields.{no_data, read_data, no_targets, read_targets, no_status, read_status, no_error, read_error}
@@ -20,13 +19,12 @@ use Rattle.sirad_fields.specs.declared.TargetFrame.{TargetFrame}
 use Rattle.sirad_fields.specs.declared.StatusFrame.{StatusFrame}
 use Rattle.sirad_fields.specs.declared.ErrorFrame.{ErrorFrame}
 use Rattle.packet.specs.Walk.{objects_of, records_of}
-use Rattle.packet.specs.Fields.{no_header, header_of, no_record, record_of, no_step, step_of, no_points, points_of, no_point, point_of}
+use Rattle.packet.specs.Fields.{no_header, header_of, no_record, record_of, no_step, step_of, points_of, no_point, point_of}
 use Rattle.packet.specs.Refusals.{PacketOf, RecordStarts, HasPoints}
 use Rattle.demands.specs.Points.{PointRefused}
 use Rattle.packet.specs.declared.PacketHeader.{PacketHeader}
 use Rattle.packet.specs.declared.PacketRecord.{PacketRecord}
 use Rattle.packet.specs.declared.PacketStep.{PacketStep}
-use Rattle.packet.specs.declared.PacketPoints.{PacketPoints}
 use Rattle.packet.specs.declared.PacketPoint.{PacketPoint}
 use Rattle.demorad.specs.Reading.{refused_command, read_command}
 use Rattle.demorad.specs.Refusals.{Unreadable, First}
@@ -116,11 +114,9 @@ StepRefuses =
     → Refuses (5 unless (PacketOf kind bs) else 6 unless (RecordStarts bs at) else none)
     (no_step at) (λ (a : PacketStep). a.refusal) (step_of kind bs at)
 
--- `packet_points::points`
+-- `packet_points::points`; a refusal has no number beside it
 abbrev pub PointsRefuse : Type 0
-PointsRefuse =
-    (bs : List ℕ)
-    → Refuses (5 unless (PacketOf 16 bs) else 7 unless (HasPoints bs) else none) no_points (λ (a : PacketPoints). a.refusal) (points_of bs)
+PointsRefuse = (bs : List ℕ) → (5 unless (PacketOf 16 bs) else 7 unless (HasPoints bs) else none) (refusal_number (points_of bs))
 
 -- `packet_points::point`
 abbrev pub PointRefuses : Type 0
@@ -153,11 +149,10 @@ abbrev pub PhaseRefuses : Type 0
 PhaseRefuses =
     (c : ℕ) → Refuses (50 unless ((34 ≤ c) × (c ≤ 254)) else none) numbers.refused (λ (a : Quantity). a.refusal) (centidegrees c)
 
--- `units::accuracy_to_millimetres`
+-- `units::accuracy_to_millimetres`; a refusal has no number beside it
 abbrev pub AccuracyRefuses : Type 0
 AccuracyRefuses =
-    (edition tenths : ℕ)
-    → Refuses (32 unless (Edition edition) else none) no_millimetres (λ (a : Accuracy). a.refusal) (accuracy_millimetres edition tenths)
+    (edition tenths : ℕ) → (32 unless (Edition edition) else none) (refusal_number (accuracy_millimetres edition tenths))
 
 -- "30, 31 infinite or no number; magnitude over 1000 m": the exponent's bits are all ones; the exact value is magnitude / 2 ^ 150 metres
 -- (`units::coordinate_to_millimetres`, `gateway::vq_millimetres`)

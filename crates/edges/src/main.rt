@@ -4,8 +4,9 @@
 
 ghost use Rattle.std.specs.Prelude.{◌≤◌, ◌<◌};
 
+use refusals::Refusal;
+use std::fmt::Display;
 use std::io;
-use units::{Accuracy, Quantity};
 
 // A step of the exponent, the sign bit, and the fractions that a line tries.
 const EXPONENT_STEP: u32 = 0x800000;
@@ -18,70 +19,40 @@ const LIMIT: u32 = 0x7A0000;
 
 const LAST: u32 = 0x7FFFFF;
 
-fn magnitude_of(z: i32) -> u64 {
-    let wide = z as i64;
-    if z < 0 {
-        let opposite = 0 - wide;
-        return opposite as u64;
-    }
-    wide as u64
-}
-
-fn print_signed(rt: &impl Print, z: i32) -> io::Result<()> {
-    if z < 0 {
-        rt.print("-")?;
-    }
-    rt.print(magnitude_of(z))
-}
-
-fn print_refusal(rt: &impl Print, number: u32) -> io::Result<()> {
-    print!(rt; "refused {number}")
-}
-
 // A tab, and the value or the refusal.
-fn print_quantity(rt: &impl Print, q: Quantity) -> io::Result<()> {
-    rt.print("\t")?;
-    if q.refusal != 0 {
-        return print_refusal(rt, q.refusal);
+fn print_answer<T: Display + Copy>(rt: &impl Print, answer: Result<T, Refusal>) -> io::Result<()> {
+    match answer {
+        Ok(value) => print!(rt; "\t{value}"),
+        Err(refusal) => print!(rt; "\t{refusal}"),
     }
-    print_signed(rt, q.value)
 }
 
 fn end_line(rt: &impl Print) -> io::Result<()> {
     rt.print("\n")
 }
 
-// The same of an accuracy.
-fn print_accuracy(rt: &impl Print, a: Accuracy) -> io::Result<()> {
-    rt.print("\t")?;
-    if a.refusal != 0 {
-        return print_refusal(rt, a.refusal);
-    }
-    rt.print(a.millimetres)
-}
-
 // The rule, the edition, the bits and their millimetres.
 fn float(rt: &impl Print, edition: u32, bits: u32) -> io::Result<()> {
     print!(rt; "float\t{edition}\t{bits:08x}")?;
-    print_quantity(rt, units::coordinate_to_millimetres(edition, bits))?;
+    print_answer(rt, units::coordinate_to_millimetres(edition, bits))?;
     end_line(rt)
 }
 
 fn decibels(rt: &impl Print, character: u8) -> io::Result<()> {
     print!(rt; "dB\t-\t{character}")?;
-    print_quantity(rt, character_units::decibels_of(character))?;
+    print_answer(rt, character_units::decibels_of(character))?;
     end_line(rt)
 }
 
 fn phase(rt: &impl Print, character: u8) -> io::Result<()> {
     print!(rt; "phase\t-\t{character}")?;
-    print_quantity(rt, character_units::centidegrees_of(character))?;
+    print_answer(rt, character_units::centidegrees_of(character))?;
     end_line(rt)
 }
 
 fn accuracy(rt: &impl Print, edition: u32, tenths: u16) -> io::Result<()> {
     print!(rt; "accuracy\t{edition}\t{tenths:04x}")?;
-    print_accuracy(rt, units::accuracy_to_millimetres(edition, tenths))?;
+    print_answer(rt, units::accuracy_to_millimetres(edition, tenths))?;
     end_line(rt)
 }
 
@@ -134,8 +105,8 @@ fn table(rt: &impl Print) -> io::Result<()> {
 
 fn character(rt: &impl Print, byte: u8) -> io::Result<()> {
     rt.print(byte)?;
-    print_quantity(rt, character_units::decibels_of(byte))?;
-    print_quantity(rt, character_units::centidegrees_of(byte))?;
+    print_answer(rt, character_units::decibels_of(byte))?;
+    print_answer(rt, character_units::centidegrees_of(byte))?;
     end_line(rt)
 }
 
@@ -151,15 +122,15 @@ fn characters(rt: &impl Print) -> io::Result<()> {
 fn floats(rt: &impl Print, edition: u32, start: u32) -> io::Result<()>
     requires { start ≤ 4286578688 }
 {
-    print_quantity(rt, units::coordinate_to_millimetres(edition, start))?;
-    print_quantity(rt, units::coordinate_to_millimetres(edition, start + 1))?;
-    print_quantity(rt, units::coordinate_to_millimetres(edition, start + HALF))?;
-    print_quantity(rt, units::coordinate_to_millimetres(edition, start + LIMIT))?;
-    print_quantity(
+    print_answer(rt, units::coordinate_to_millimetres(edition, start))?;
+    print_answer(rt, units::coordinate_to_millimetres(edition, start + 1))?;
+    print_answer(rt, units::coordinate_to_millimetres(edition, start + HALF))?;
+    print_answer(rt, units::coordinate_to_millimetres(edition, start + LIMIT))?;
+    print_answer(
         rt,
         units::coordinate_to_millimetres(edition, start + LIMIT + 1),
     )?;
-    print_quantity(rt, units::coordinate_to_millimetres(edition, start + LAST))
+    print_answer(rt, units::coordinate_to_millimetres(edition, start + LAST))
 }
 
 fn exponent(rt: &impl Print, edition: u32, e: u32) -> io::Result<()>

@@ -35,7 +35,7 @@ pub extern "C" fn vq_judge(dialect: u32, bytes: &[u8], offset: usize) -> Judgeme
 pub extern "C" fn vq_millimetres(edition: u32, bits: u32) -> Quantity
     ensures { result ≡ millimetres edition bits }
 {
-    units::coordinate_to_millimetres(edition, bits)
+    Quantity::from(units::coordinate_to_millimetres(edition, bits))
 }
 
 // What a character means as a phase, in hundredths of a degree, or the refusal number: 90 (`Z`) is -8836, and 33 is refused with 50.
@@ -43,5 +43,5 @@ pub extern "C" fn vq_millimetres(edition: u32, bits: u32) -> Quantity
 pub extern "C" fn vq_centidegrees(character: u8) -> Quantity
     ensures { result ≡ centidegrees character }
 {
-    character_units::centidegrees_of(character)
+    Quantity::from(character_units::centidegrees_of(character))
 }

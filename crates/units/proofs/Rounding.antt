@@ -10,7 +10,7 @@ use native.Mathlib.Nat.{mul-div-mul_right}
 use native.Mathlib.Nat.{lt-div-mul-add, div-eq_of_lt-le}
 use lib.IntN.{neg_ℤ-neg_ℤ, neg_ℤ-+ℤ}
 use Rattle.digits.proofs.Choices.{test, either}
-use Rattle.units.specs.Rounding.{distance, signed, gap, Nearest, Half, Ties, to_away, to_even, AwayFromZero, EvenAtHalf}
+use Rattle.units.specs.Rounding.{distance, signed, gap, Nearest, Half, Ties, ToAway, ToEven, AwayFromZero, EvenAtHalf}
 use Rattle.units.specs.Rounding.{Taken, Rounds, half_up, nearest}
 
 -- -- The gap, over the naturals
@@ -71,8 +71,8 @@ side false n d (negsuc m) = against m (gap_against false n d (suc m))
 
 -- a half goes up by at most one
 pub half_most : (ties : Ties) (q : ℕ) → half_up ties q ≤ 1
-half_most to_away q = omega arith
-half_most to_even q = omega arith
+half_most ToAway q = omega arith
+half_most ToEven q = omega arith
 
 -- the closed form without a division
 pub bounds : (ties : Ties) (n d : ℕ) → 0 < d
@@ -136,7 +136,7 @@ nearest_scaled ties n d f h g = go (half_up ties (n / d)) refl (half_most ties (
     go (suc (suc u)) e least b = absurd (omega arith)
 
 -- a natural that is as near is at most the closed form that takes halves up
-most : (n d m : ℕ) → 0 < d → 2 * (d * m) ≤ 2 * n + d → m ≤ nearest to_away n d
+most : (n d m : ℕ) → 0 < d → 2 * (d * m) ≤ 2 * n + d → m ≤ nearest ToAway n d
 unfolding nearest
 most n d m h low =
     let e : m * (2 * d) ≡ 2 * (d * m) = mul_left_comm m 2 d ∙ ap (λ (x : ℕ). 2 * x) (mul_comm m d) in
@@ -187,14 +187,14 @@ at_half ties n d m h e = go (half_up ties m) refl (half_most ties m)
 
 -- two rules differ only at exact halves, and there by one (paper 02, (iv))
 pub ties_differ : (n d : ℕ) → 0 < d
-    → (nearest to_even n d ≡ nearest to_away n d) ⊎ (Half n d × (nearest to_away n d ≡ suc (nearest to_even n d)))
+    → (nearest ToEven n d ≡ nearest ToAway n d) ⊎ (Half n d × (nearest ToAway n d ≡ suc (nearest ToEven n d)))
 unfolding Half
 ties_differ n d h =
-    let even : ℕ = nearest to_even n d in
-    let away : ℕ = nearest to_away n d in
-    let e = bounds to_even n d h in
-    let a = bounds to_away n d h in
-    let up = half_most to_even (n / d) in
+    let even : ℕ = nearest ToEven n d in
+    let away : ℕ = nearest ToAway n d in
+    let e = bounds ToEven n d h in
+    let a = bounds ToAway n d h in
+    let up = half_most ToEven (n / d) in
     test
     (ltb even away)
     (λ t.
@@ -238,7 +238,7 @@ module _ (negative : Bool) (n d : ℕ) (h : 0 < d) where
   pub nearest_within_half : (z : ℤ) → Nearest negative n d z ↔ (2 * gap negative n d z ≤ d)
   unfolding Nearest
   nearest_within_half z =
-      (λ near. omega (arith, near (signed negative (nearest to_away n d)), closed_near to_away), λ half y. closer half y (far z y))
+      (λ near. omega (arith, near (signed negative (nearest ToAway n d)), closed_near ToAway), λ half y. closer half y (far z y))
     where
       closer : 2 * gap negative n d z ≤ d → (y : ℤ) → (z ≡ y) ⊎ (d ≤ gap negative n d z + gap negative n d y)
           → gap negative n d z ≤ gap negative n d y
@@ -266,35 +266,35 @@ module _ (negative : Bool) (n d : ℕ) (h : 0 < d) where
       half apart = omega (arith, (nearest_within_half y).0 near, (nearest_within_half z).0 near')
 
   -- a nearest number has the value's sign, and its magnitude is at most the closed form that takes halves up
-  pub nearest_along : (z : ℤ) → Nearest negative n d z → (m : ℕ) × (z ≡ signed negative m) × (m ≤ nearest to_away n d)
+  pub nearest_along : (z : ℤ) → Nearest negative n d z → (m : ℕ) × (z ≡ signed negative m) × (m ≤ nearest ToAway n d)
   nearest_along z near = go (side negative n d z)
     where
       half : 2 * gap negative n d z ≤ d
       half = (nearest_within_half z).0 near
 
-      go : Side negative n d z → (m : ℕ) × (z ≡ signed negative m) × (m ≤ nearest to_away n d)
+      go : Side negative n d z → (m : ℕ) × (z ≡ signed negative m) × (m ≤ nearest ToAway n d)
       go (along m e f) = (m, e, most n d m h (omega (arith, half)))
       go (against m f) = absurd (omega (arith, half, mul-suc d m))
 
   -- the closed form is what the rule takes
   pub closed_taken : (ties : Ties) → Taken ties negative n d (signed negative (nearest ties n d))
   unfolding AwayFromZero EvenAtHalf Half
-  closed_taken to_away = λ y near.
+  closed_taken ToAway = λ y near.
       let a = nearest_along y near in
-      rw (a.1, nat_abs_signed negative a.0, nat_abs_signed negative (nearest to_away n d)) a.2
-  closed_taken to_even = λ half.
-      rw (nat_abs_signed negative (nearest to_even n d), at_half to_even n d half.0 h half.1) (omega arith)
+      rw (a.1, nat_abs_signed negative a.0, nat_abs_signed negative (nearest ToAway n d)) a.2
+  closed_taken ToEven = λ half.
+      rw (nat_abs_signed negative (nearest ToEven n d), at_half ToEven n d half.0 h half.1) (omega arith)
 
   -- two numbers that round the value are one
   pub rounds_unique : (ties : Ties) (y z : ℤ) → Rounds ties negative n d y → Rounds ties negative n d z → y ≡ z
   unfolding AwayFromZero EvenAtHalf
-  rounds_unique to_away y z r s =
+  rounds_unique ToAway y z r s =
       let a = nearest_along y r.0 in
       let b = nearest_along z s.0 in
       let up : a.0 ≤ b.0 = rw (a.1, b.1, nat_abs_signed negative a.0, nat_abs_signed negative b.0) at (s.1 y r.0) in
       let down : b.0 ≤ a.0 = rw (a.1, b.1, nat_abs_signed negative a.0, nat_abs_signed negative b.0) at (r.1 z s.0) in
       a.1 ∙ ap (signed negative) (le_antisymm up down) ∙ sym b.1
-  rounds_unique to_even y z r s = either (far y z) (λ e. e) (λ apart. same (half_of y (omega (arith, near, near', apart))))
+  rounds_unique ToEven y z r s = either (far y z) (λ e. e) (λ apart. same (half_of y (omega (arith, near, near', apart))))
     where
       near : 2 * gap negative n d y ≤ d
       near = (nearest_within_half y).0 r.0

@@ -1,13 +1,18 @@
 -- The number rules round as paper 01, "Numbers", says: each is the theorem on rounding at the rule's own fraction.
 use Rattle.std.proofs.Common.{◌≡◌, ℕ, suc, ◌*◌, ◌^◌, ◌<◌, ◌≤◌, Bool, true, false, cond, eqb, ltb, ◌⊎◌, ◌↔◌, ℤ, pos, ◌≤ℤ◌, sym, refl}
 use Rattle.std.proofs.Common.{ap, ◌∙◌, inl, inr, arith, lit<, le→leb, ltb-false, ltb-true, le-ltb, lt-ltb, eq-eqb, ne_eqb, eqb-true}
+use Rattle.std.specs.Prelude.{Ok, Err}
+use Rattle.std.specs.Result.{result_unwrap_or}
 use borrow.Author.Tests.{eqb-false}
+use Rattle.refusals.specs.declared.Refusal.{Refusal}
+use Rattle.refusals.specs.Numbers.{number, refusal_number}
+use Rattle.refusals.proofs.NumberLaws.{number_ne0}
 use Rattle.digits.specs.Bytes.{is_character}
 use Rattle.digits.proofs.Choices.{test, either, both_ways, within_bounds}
-use Rattle.units.specs.Rounding.{distance, signed, Nearest, Half, to_away, to_even, Rounds, nearest}
+use Rattle.units.specs.Rounding.{distance, signed, Nearest, Half, Ties, ToAway, ToEven, Rounds, nearest}
 use Rattle.units.specs.declared.Quantity.{Quantity}
 use Rattle.units.specs.Float.{negative, exponent, not_finite, magnitude}
-use Rattle.units.specs.Units.{value, refused, centidegrees_of, centidegrees, is_edition, Edition, ties_of, accuracy_of}
+use Rattle.units.specs.Units.{value, refused, centidegrees_of, centidegrees, is_edition, Edition, ties_of, ties_named, accuracy_of}
 use Rattle.units.specs.Units.{accuracy_millimetres, RoundsMillimetres, HalfMillimetre, millimetres_of, coordinate, millimetres}
 use Rattle.units.proofs.Rounding.{ties_differ, nearest_is_nearest, nearest_unique, nearest_along, rounds_exactly}
 
@@ -26,7 +31,7 @@ phase_nearest c h z = (
 )
   where
     closed : Nearest (ltb c 144) (1800 * distance c 144) 11 (centidegrees_of c)
-    closed = nearest_is_nearest (ltb c 144) (1800 * distance c 144) 11 (lit< tt) to_away
+    closed = nearest_is_nearest (ltb c 144) (1800 * distance c 144) 11 (lit< tt) ToAway
 
     given : (centidegrees c).value ≡ centidegrees_of c
     given =
@@ -60,11 +65,30 @@ no_edition edition = (
   λ n. test (is_edition edition) (λ t. absurd (n ((edition_exactly edition).0 t))) (λ f. f),
 )
 
+-- an edition that has a rule is 1 or 2
+pub named : (edition : ℕ) (ties : Ties) → ties_named edition ≡ Ok ties → Edition edition
+unfolding ties_named
+named edition ties e =
+    (edition_exactly edition).0
+    (test
+    (is_edition edition)
+    (λ t. t)
+    (λ f. let n : ◌≡◌ {A = ℕ} 32 0 = ap refusal_number (rw f at e) in absurd (omega arith)))
+
+-- one that has none is neither, and refused with 32
+pub unnamed : (edition : ℕ) (why : Refusal) → ties_named edition ≡ Err why → (number why ≡ 32) × (Edition edition → ⊥)
+unfolding ties_named
+unnamed edition why e =
+    test
+    (is_edition edition)
+    (λ t. absurd (number_ne0 why (sym (ap refusal_number (rw t at e)))))
+    (λ f. (sym (ap refusal_number (rw f at e)), (no_edition edition).0 f))
+
 -- -- An accuracy's millimetres
 
 module _ (edition tenths : ℕ) where
   -- no refusal exactly if the edition is 1 or 2
-  pub accuracy_0 : ((accuracy_millimetres edition tenths).refusal ≡ 0) ↔ Edition edition
+  pub accuracy_0 : (refusal_number (accuracy_millimetres edition tenths) ≡ 0) ↔ Edition edition
   unfolding accuracy_millimetres
   accuracy_0 = (
     λ h.
@@ -74,7 +98,7 @@ module _ (edition tenths : ℕ) where
   )
 
   -- else it is 32
-  pub accuracy_32 : ((accuracy_millimetres edition tenths).refusal ≡ 32) ↔ (Edition edition → ⊥)
+  pub accuracy_32 : (refusal_number (accuracy_millimetres edition tenths) ≡ 32) ↔ (Edition edition → ⊥)
   unfolding accuracy_millimetres
   accuracy_32 = (
     λ h.
@@ -83,28 +107,34 @@ module _ (edition tenths : ℕ) where
     λ n. rw ((no_edition edition).1 n),
   )
 
-  -- an answer that is no refusal is the whole number nearest to tenths / 10, halves by the edition, and no other is
-  pub accuracy_nearest : (accuracy_millimetres edition tenths).refusal ≡ 0 → (z : ℤ)
-      → (pos (accuracy_millimetres edition tenths).millimetres ≡ z) ↔ Rounds (ties_of edition) false tenths 10 z
+  -- the millimetres of an answer are the closed form
+  pub accuracy_given : (m : ℕ) → accuracy_millimetres edition tenths ≡ Ok m → m ≡ accuracy_of (ties_of edition) tenths
   unfolding accuracy_millimetres
-  accuracy_nearest h z =
+  accuracy_given m h =
+      let t = (edition_exactly edition).1 (accuracy_0.0 (ap refusal_number h)) in
+      sym (ap (λ r. result_unwrap_or r 0) (rw t at h))
+
+  -- the millimetres of an answer are the whole number nearest to tenths / 10, halves by the edition, and no other is
+  pub accuracy_nearest : (m : ℕ) → accuracy_millimetres edition tenths ≡ Ok m → (z : ℤ)
+      → (pos m ≡ z) ↔ Rounds (ties_of edition) false tenths 10 z
+  accuracy_nearest m h z =
       let both = rounds_exactly false tenths 10 (lit< tt) (ties_of edition) z in
-      let given : (accuracy_millimetres edition tenths).millimetres ≡ accuracy_of (ties_of edition) tenths =
-      rw ((edition_exactly edition).1 (accuracy_0.0 h)) in
+      let given = accuracy_given m h in
       (λ e. both.1 (sym e ∙ ap pos given), λ r. ap pos given ∙ sym (both.0 r))
 
 -- the editions differ only at exact halves, and there by one (paper 02, (iv))
 pub accuracy_editions : (tenths : ℕ)
     → (accuracy_millimetres 2 tenths ≡ accuracy_millimetres 1 tenths)
-    ⊎ (Half tenths 10 × ((accuracy_millimetres 1 tenths).millimetres ≡ suc (accuracy_millimetres 2 tenths).millimetres))
+    ⊎ (Half tenths 10 × ((m : ℕ) × (accuracy_millimetres 2 tenths ≡ Ok m) × (accuracy_millimetres 1 tenths ≡ Ok (suc m))))
 unfolding accuracy_millimetres ties_of
-accuracy_editions tenths = either (ties_differ tenths 10 (lit< tt)) (λ e. inl (rw e)) inr
+accuracy_editions tenths =
+    either (ties_differ tenths 10 (lit< tt)) (λ e. inl (rw e)) (λ half. inr (half.0, (nearest ToEven tenths 10, refl, ap Ok half.1)))
 
 -- edition 1 takes halves up: of all whole numbers nearest to tenths / 10 it is the greatest
-pub accuracy_up : (tenths : ℕ) (y : ℤ) → Nearest false tenths 10 y → y ≤ℤ pos (accuracy_of to_away tenths)
+pub accuracy_up : (tenths : ℕ) (y : ℤ) → Nearest false tenths 10 y → y ≤ℤ pos (accuracy_of ToAway tenths)
 accuracy_up tenths y near =
     let a = nearest_along false tenths 10 (lit< tt) y near in
-    rw a.1 record { le = le→leb a.0 (accuracy_of to_away tenths) a.2 }
+    rw a.1 record { le = le→leb a.0 (accuracy_of ToAway tenths) a.2 }
 
 -- -- A coordinate's millimetres
 
@@ -234,4 +264,4 @@ millimetres_editions bits =
     test
     (ltb (1000 * 2 ^ 150) (magnitude bits))
     (λ u. inl (rw (t, u)))
-    (λ u. inr (half.0, (nearest to_even (1000 * magnitude bits) (2 ^ 150), rw (t, u), rw (t, u, half.1))))))
+    (λ u. inr (half.0, (nearest ToEven (1000 * magnitude bits) (2 ^ 150), rw (t, u), rw (t, u, half.1))))))

@@ -1,6 +1,8 @@
 -- The nearest whole number to a fraction, and the rule at exact halves (paper 01, "Numbers"; paper 02, (iv)).
 -- A value is given as its sign and the magnitude n / d, with d not 0; all comparisons are over whole numbers.
 use Rattle.std.specs.Prelude.{◌≡◌, ℕ, ◌+◌, ◌-◌, ◌*◌, ◌/◌, ◌%◌, ◌≤◌, Bool, true, false, ℤ, pos, ◌-ℤ◌, ◌*ℤ◌, neg_ℤ, unsigned_abs}
+pub use Rattle.units.specs.declared.Ties.{Ties}
+pub use Rattle.units.specs.declared.Ties.TheVariants.{ToAway, ToEven}
 
 -- how far two whole numbers are apart
 abbrev pub distance : ℕ → ℕ → ℕ
@@ -25,10 +27,8 @@ Half n d = (m : ℕ) × (2 * n ≡ d * (2 * m + 1))
 
 -- -- The rule at exact halves
 
--- which of the two nearest numbers is taken: the one away from zero, or the even one (IEEE 754: roundTiesToAway, roundTiesToEven)
-pub data Ties : Type 0 where
-  to_away : Ties
-  to_even : Ties
+-- `Ties` says which of the two nearest numbers is taken: the one away from zero, or the even one (IEEE 754: roundTiesToAway,
+-- roundTiesToEven)
 
 -- of all nearest numbers z is the one away from zero (paper 01, "Numbers")
 unfoldable pub AwayFromZero : Bool → ℕ → ℕ → ℤ → Type 0
@@ -40,8 +40,8 @@ EvenAtHalf n d z = Half n d → unsigned_abs z % 2 ≡ 0
 
 -- z is what the rule takes
 abbrev pub Taken : Ties → Bool → ℕ → ℕ → ℤ → Type 0
-Taken to_away negative n d z = AwayFromZero negative n d z
-Taken to_even negative n d z = EvenAtHalf n d z
+Taken ToAway negative n d z = AwayFromZero negative n d z
+Taken ToEven negative n d z = EvenAtHalf n d z
 
 -- z rounds the value: no whole number is closer, and at exact halves it is the one that the rule takes
 abbrev pub Rounds : Ties → Bool → ℕ → ℕ → ℤ → Type 0
@@ -49,8 +49,8 @@ Rounds ties negative n d z = Nearest negative n d z × Taken ties negative n d z
 
 -- whether a half goes up from the whole number q below it: 1 or 0
 abbrev pub half_up : Ties → ℕ → ℕ
-half_up to_away q = 1
-half_up to_even q = q % 2
+half_up ToAway q = 1
+half_up ToEven q = q % 2
 
 -- the magnitude of the nearest whole number, halves by the rule
 unfoldable pub nearest : Ties → ℕ → ℕ → ℕ

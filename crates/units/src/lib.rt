@@ -3,23 +3,13 @@
 // are whole and not negative, and no rounding but ours takes place.
 #![tactic(auto)]
 
-ghost use Rattle.std.specs.Prelude.{◌≡◌, ◌^◌, ◌<◌, ◌≤◌};
+ghost use Rattle.std.specs.Prelude.{◌≡◌, ◌*◌, ◌^◌, ◌<◌, ◌≤◌, Ok};
 ghost use Rattle.units.specs.Rounding.{signed, half_up, nearest};
-ghost use Rattle.units.specs.Units.{value, refused, is_edition, ties_of, accuracy_millimetres};
-ghost use Rattle.units.specs.Units.{coordinate, millimetres};
+ghost use Rattle.units.specs.Float.{magnitude};
+ghost use Rattle.units.specs.Units.{quantity_of, ties_named, accuracy_millimetres, coordinate, millimetres};
 ghost use Rattle.units.specs.Internal.{Inside, parts, outside};
 
-// Refusals (paper 01, "Refusal numbers"; paper 02, (iv)).
-const NOT_FINITE: u32 = 30;
-
-const TOO_FAR: u32 = 31;
-
-const NO_EDITION: u32 = 32;
-
-// The editions of the rule at exact halves: the first takes them away from zero, the second to the even neighbour.
-const AWAY_EDITION: u32 = 1;
-
-const EVEN_EDITION: u32 = 2;
+use refusals::Refusal;
 
 // An accuracy is sent in tenths of a millimetre.
 const ACCURACY_PARTS: u32 = 10;
@@ -43,14 +33,30 @@ const SIGNIFICAND_PARTS: u64 = 125;
 
 const HALF: u64 = 0x80000000;
 
-// An accuracy in millimetres, or the refusal number with 0 millimetres.
-#[derive(Clone, Copy)]
-pub struct Accuracy {
-    pub refusal: u32,
-    pub millimetres: u16,
+// Which of the two nearest numbers is taken at an exact half: the one away from zero, or the even one (paper 02, (iv)).
+#[derive(Clone, Copy, Debug, PartialEq, Eq)]
+pub enum Ties {
+    ToAway,
+    ToEven,
 }
 
-// A value, or the refusal number with the value 0.
+impl TryFrom<u32> for Ties {
+    type Error = Refusal;
+
+    ghost try_from_gives = { λ edition ties. ties ≡ ties_named edition };
+
+    // The rule of an edition: edition 1 takes halves away from zero, edition 2 to the even neighbour.
+    #[tactic(auto, unfolding(crate::specs::Units::ties_named, crate::specs::Units::ties_of))]
+    fn try_from(edition: u32) -> Result<Ties, Refusal> {
+        match edition {
+            1 => Ok(Ties::ToAway),
+            2 => Ok(Ties::ToEven),
+            _ => Err(Refusal::UnknownEdition),
+        }
+    }
+}
+
+// A value, or the refusal number with the value 0: what a host in C is answered.
 #[repr(C)]
 #[derive(Clone, Copy)]
 pub struct Quantity {
@@ -58,140 +64,116 @@ pub struct Quantity {
     pub value: i32,
 }
 
-// A refusal: its number, and the value 0.
-fn refusal_of(number: u32) -> Quantity
-    ensures { result ≡ refused number }
-{
-    Quantity {
-        refusal: number,
-        value: 0,
+impl From<Result<i32, Refusal>> for Quantity {
+    ghost from_gives = { λ answer q. q ≡ quantity_of answer };
+
+    fn from(answer: Result<i32, Refusal>) -> Quantity {
+        match answer {
+            Ok(value) => Quantity { refusal: 0, value },
+            Err(refusal) => Quantity {
+                refusal: refusal.number(),
+                value: 0,
+            },
+        }
     }
 }
 
-// The value of this sign and magnitude.
-fn signed_quantity(negative: bool, magnitude: u32) -> Quantity
+// The number of this sign and magnitude.
+fn signed(negative: bool, magnitude: u32) -> i32
     requires { magnitude ≤ 1000000 }
-    ensures { result ≡ value (signed negative magnitude) }
+    ensures { result ≡ signed negative magnitude }
 {
     let whole = magnitude as i32;
-    if negative {
-        return Quantity {
-            refusal: 0,
-            value: -whole,
-        };
-    }
-    Quantity {
-        refusal: 0,
-        value: whole,
-    }
+    if negative { -whole } else { whole }
 }
 
-// Whether there is an edition of this number.
-fn is_edition(edition: u32) -> bool
-    ensures { result ≡ is_edition edition }
+// Whether a half above the whole number q goes up: 1 or 0.
+fn half_up(ties: Ties, q: u32) -> u32
+    ensures { result ≡ half_up ties q }
 {
-    AWAY_EDITION <= edition && edition <= EVEN_EDITION
-}
-
-// Whether a half above the whole number q goes up, in an edition: 1 or 0.
-fn half_up(edition: u32, q: u32) -> u32
-    ensures { result ≡ half_up (ties_of edition) q }
-{
-    if edition == AWAY_EDITION {
-        return 1;
+    match ties {
+        Ties::ToAway => 1,
+        Ties::ToEven => q % 2,
     }
-    q % 2
 }
 
-// The whole number nearest to n / d, halves by the edition.
-fn rounded(edition: u32, n: u32, d: u32) -> u32
+// The whole number nearest to n / d.
+#[tactic(auto, unfolding(crate::specs::Rounding::nearest))]
+fn rounded(ties: Ties, n: u32, d: u32) -> u32
     requires { (n < 2 ^ 30) × (0 < d) × (d < 2 ^ 30) }
-    ensures { result ≡ nearest (ties_of edition) n d }
+    ensures { result ≡ nearest ties n d }
 {
-    (2 * n + (d - 1) + half_up(edition, n / d)) / (2 * d)
+    (2 * n + (d - 1) + half_up(ties, n / d)) / (2 * d)
 }
 
-// Tenths of a millimetre to whole millimetres: 512 is 51, and 5 is 1 in edition 1 and 0 in edition 2; 32 for any other edition.
-pub fn accuracy_to_millimetres(edition: u32, tenths: u16) -> Accuracy
+// Tenths of a millimetre to whole millimetres: 512 is 51, and 5 is 1 in edition 1 and 0 in edition 2; any other edition is refused.
+#[tactic(auto, unfolding(crate::specs::Units::ties_named, crate::specs::Units::accuracy_millimetres))]
+pub fn accuracy_to_millimetres(edition: u32, tenths: u16) -> Result<u16, Refusal>
     ensures { result ≡ accuracy_millimetres edition tenths }
 {
-    if is_edition(edition) {
-        let n = tenths as u32;
-        let whole = rounded(edition, n, ACCURACY_PARTS);
-        return Accuracy {
-            refusal: 0,
-            millimetres: whole as u16,
-        };
-    }
-    Accuracy {
-        refusal: NO_EDITION,
-        millimetres: 0,
-    }
+    let ties = Ties::try_from(edition)?;
+    let whole = rounded(ties, tenths as u32, ACCURACY_PARTS);
+    Ok(whole as u16)
 }
 
-// What a magnitude outside LEAST_BITS to LIMIT_BITS is refused with, by what its bits are over LEAST_BITS: 31, 30, or 0 for one below,
-// where the value is 0.
-fn refusal_number(over: u32) -> u32
+// What a magnitude outside LEAST_BITS to LIMIT_BITS gives, by what its bits are over LEAST_BITS: one below is 0.
+fn outside(over: u32) -> Result<i32, Refusal>
     ensures { result ≡ outside over }
 {
     if SIGN - LEAST_BITS <= over {
-        return 0;
+        return Ok(0);
     }
     if INFINITE_BITS - LEAST_BITS <= over {
-        return NOT_FINITE;
+        return Err(Refusal::NotFinite);
     }
-    TOO_FAR
+    Err(Refusal::TooFar)
 }
 
 // The parts of a coordinate from LEAST_BITS to LIMIT_BITS; `over` is what its magnitude's bits are over LEAST_BITS.
 fn parts_of(bits: u32, over: u32) -> u64
     requires { Inside bits over }
-    ensures { result ≡ parts bits over }
+    ensures exact { result ≡ parts bits over }
+    ensures few { result < 2 ^ 53 }
 {
     let significand = LEADING_ONE + bits % LEADING_ONE;
     (SIGNIFICAND_PARTS * (significand as u64)) << (over / LEADING_ONE)
 }
 
-// The millimetres of such a coordinate. Only what has no rest below HALF can be an exact half.
-fn inside(edition: u32, bits: u32, over: u32) -> Quantity
+// The magnitude of such a coordinate's millimetres. Only what has no rest below HALF can be an exact half.
+fn inside(ties: Ties, bits: u32, over: u32) -> u32
     requires { Inside bits over }
-    ensures { result ≡ coordinate (ties_of edition) bits }
+    ensures { result ≡ nearest ties (1000 * magnitude bits) (2 ^ 150) }
 {
-    let negative = bits >> 31 == 1;
     let parts = parts_of(bits, over);
-    if parts % HALF == 0 {
-        if edition != AWAY_EDITION {
-            let halves = (parts / HALF) as u32;
-            return signed_quantity(negative, rounded(edition, halves, 2));
-        }
+    if ties == Ties::ToEven && parts % HALF == 0 {
+        return rounded(ties, (parts / HALF) as u32, 2);
     }
-    let whole = (parts + HALF) / (2 * HALF);
-    signed_quantity(negative, whole as u32)
+    ((parts + HALF) / (2 * HALF)) as u32
 }
 
-// A coordinate to whole millimetres by an edition that there is.
-fn millimetres_by(edition: u32, bits: u32) -> Quantity
-    ensures { result ≡ coordinate (ties_of edition) bits }
+// A coordinate to whole millimetres, halves by a rule.
+fn millimetres_by(ties: Ties, bits: u32) -> Result<i32, Refusal>
+    ensures { quantity_of result ≡ coordinate ties bits }
 {
     // Below LEAST_BITS the difference wraps round to over 2 ^ 30: one test for both ends.
-    let over = std::num::wrapping_sub_u32(bits, LEAST_BITS) % SIGN;
+    let over = bits.wrapping_sub(LEAST_BITS) % SIGN;
     if over <= LIMIT_BITS - LEAST_BITS {
-        return inside(edition, bits, over);
+        let negative = bits >> 31 == 1;
+        let whole = inside(ties, bits, over);
+        return Ok(signed(negative, whole));
     }
-    refusal_of(refusal_number(over))
+    outside(over)
 }
 
 // A coordinate, the bits of a float in metres, to whole millimetres, halves by the edition: 3D800000 (0.0625 m) is 63 in edition 1 and 62
-// in edition 2, BD800000 is -63 and -62; any other edition is refused with 32, 7F800000 (infinite) with 30, 447A0001 (over 1000 m) with 31.
-// Each call of `millimetres_by` names its edition, so that the compiler makes a path of its own for each.
-pub fn coordinate_to_millimetres(edition: u32, bits: u32) -> Quantity
-    ensures { result ≡ millimetres edition bits }
+// in edition 2, BD800000 is -63 and -62; any other edition is refused, then 7F800000 (infinite), and 447A0001 (over 1000 m).
+// Each call of `millimetres_by` names its rule, so that the compiler makes a path of its own for each.
+#[tactic(auto, unfolding(crate::specs::Units::ties_named, crate::specs::Units::millimetres))]
+pub fn coordinate_to_millimetres(edition: u32, bits: u32) -> Result<i32, Refusal>
+    ensures { quantity_of result ≡ millimetres edition bits }
 {
-    if edition == AWAY_EDITION {
-        return millimetres_by(AWAY_EDITION, bits);
+    match Ties::try_from(edition)? {
+        Ties::ToAway => millimetres_by(Ties::ToAway, bits),
+        Ties::ToEven => millimetres_by(Ties::ToEven, bits),
     }
-    if edition == EVEN_EDITION {
-        return millimetres_by(EVEN_EDITION, bits);
-    }
-    refusal_of(NO_EDITION)
 }

@@ -6,4 +6,7 @@ use Rattle.units.proofs.parts_of.Goals as goal
 
 pub returns : goal.returns
 unfolding parts
-returns c = mod-eq_of_lt (lt_trans (parts_less c.args.bits c.args.over c.requires) (lit< tt))
+returns c =
+    let less = parts_less c.args.bits c.args.over c.requires in
+    let kept = mod-eq_of_lt (lt_trans less (lit< tt)) in
+    record { exact = kept; few = rw kept less }
