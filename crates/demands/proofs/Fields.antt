@@ -6,7 +6,7 @@ use Prim.Native.Nat.{ℕ, ◌+◌, ◌<◌}
 use lib.Dec.{eqb, ltb}
 use borrow.Author.Tests.{eqb-true, eqb-false}
 use Rattle.digits.specs.LittleEndian.{word_at}
-use Rattle.digits.proofs.Choices.{test}
+use Rattle.digits.proofs.Choices.{test, both_ways}
 use Rattle.units.specs.declared.Quantity.{Quantity}
 use Rattle.units.specs.Units.{millimetres}
 use Rattle.std.specs.declared.option.Option.{Option}
@@ -14,11 +14,14 @@ use Rattle.std.specs.declared.option.Option.TheVariants.{Some, None}
 use Rattle.packet.specs.declared.PacketHeader.{PacketHeader}
 use Rattle.packet.specs.declared.PacketRecord.{PacketRecord}
 use Rattle.packet.specs.declared.PacketStep.{PacketStep}
-use Rattle.packet.specs.declared.PacketPoints.{PacketPoints}
+use Rattle.packet.specs.declared.Points.{Points}
+use Rattle.std.specs.declared.result.Result.{Result}
+use Rattle.refusals.specs.declared.Refusal.{Refusal}
+use Rattle.refusals.specs.Numbers.{refusal_number}
 use Rattle.packet.specs.declared.PacketPoint.{PacketPoint}
 use Rattle.packet.specs.Walk.{objects_of, records_of, starts_among}
 use Rattle.packet.specs.Fields.{is_packet, no_header, header_of, no_record, record_read, record_of, no_step, step_read, step_of}
-use Rattle.packet.specs.Fields.{no_points, points_found, point_record, points_of, no_point, point_from, point_at}
+use Rattle.packet.specs.Fields.{points_found, point_record, points_of, no_point, point_from, point_at}
 use Rattle.packet.specs.Refusals.{RecordStarts, HasPoints}
 use Rattle.packet.proofs.Opened.{packet_exactly}
 use Rattle.packet.proofs.Theorems.{found_first, missing_none, starts_exactly}
@@ -77,16 +80,13 @@ by_record {A = A} zeros number numbered others bs read lacks there = go (point_r
 
 pub points_refuse : say.PointsRefuse
 unfolding points_of
-points_refuse bs =
-    unless_test no_points number (λ n. refl) (7 unless (HasPoints bs) else none) 5
-    (is_packet 16 bs) (packet_exactly 16 bs) (points_of bs) (λ f. rw f)
-    (λ y.
-    rw y
-    (by_record no_points number (λ n. refl) none bs (points_found (objects_of bs)) refl
-    (λ q a. fine no_points number (λ n. refl) (points_found (objects_of bs) (Some q)) refl)))
+points_refuse bs = test (is_packet 16 bs)
+    (λ y. rw y (inr ((packet_exactly 16 bs).0 y, by_found (point_record bs) refl)))
+    (λ f. rw f (inl ((λ p. both_ways (is_packet 16 bs) ((packet_exactly 16 bs).1 p) f), refl)))
   where
-    number : PacketPoints → ℕ
-    number a = a.refusal
+    by_found : (f : Option ℕ) → point_record bs ≡ f → (7 unless (HasPoints bs) else none) (refusal_number (points_found (objects_of bs) f))
+    by_found (Some q) a = inr (found_has bs q a, refl)
+    by_found None m = inl (missing_lacks bs m, refl)
 
 -- -- One point
 

@@ -19,13 +19,12 @@ use Rattle.sirad_fields.specs.declared.TargetFrame.{TargetFrame}
 use Rattle.sirad_fields.specs.declared.StatusFrame.{StatusFrame}
 use Rattle.sirad_fields.specs.declared.ErrorFrame.{ErrorFrame}
 use Rattle.packet.specs.Walk.{objects_of, records_of}
-use Rattle.packet.specs.Fields.{no_header, header_of, no_record, record_of, no_step, step_of, no_points, points_of, no_point, point_of}
+use Rattle.packet.specs.Fields.{no_header, header_of, no_record, record_of, no_step, step_of, points_of, no_point, point_of}
 use Rattle.packet.specs.Refusals.{PacketOf, RecordStarts, HasPoints}
 use Rattle.demands.specs.Points.{PointRefused}
 use Rattle.packet.specs.declared.PacketHeader.{PacketHeader}
 use Rattle.packet.specs.declared.PacketRecord.{PacketRecord}
 use Rattle.packet.specs.declared.PacketStep.{PacketStep}
-use Rattle.packet.specs.declared.PacketPoints.{PacketPoints}
 use Rattle.packet.specs.declared.PacketPoint.{PacketPoint}
 use Rattle.demorad.specs.Reading.{refused_command, read_command}
 use Rattle.demorad.specs.Refusals.{Unreadable, First}
@@ -115,11 +114,9 @@ StepRefuses =
     → Refuses (5 unless (PacketOf kind bs) else 6 unless (RecordStarts bs at) else none)
     (no_step at) (λ (a : PacketStep). a.refusal) (step_of kind bs at)
 
--- `packet_points::points`
+-- `packet_points::points`; a refusal has no number beside it
 abbrev pub PointsRefuse : Type 0
-PointsRefuse =
-    (bs : List ℕ)
-    → Refuses (5 unless (PacketOf 16 bs) else 7 unless (HasPoints bs) else none) no_points (λ (a : PacketPoints). a.refusal) (points_of bs)
+PointsRefuse = (bs : List ℕ) → (5 unless (PacketOf 16 bs) else 7 unless (HasPoints bs) else none) (refusal_number (points_of bs))
 
 -- `packet_points::point`
 abbrev pub PointRefuses : Type 0

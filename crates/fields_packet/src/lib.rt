@@ -12,7 +12,7 @@ use packet::{Cursor, PacketHeader, PacketPoint, PacketRecord, PacketStep};
 pub extern "C" fn vq_header(kind: u32, packet: &[u8]) -> PacketHeader
     ensures { result ≡ header_of kind packet.now }
 {
-    packet_header::header(kind, packet)
+    PacketHeader::from(packet_header::header(kind, packet))
 }
 
 // Record `index` of a packet of a kind: its type and the part of the slice that is its payload; 5, 6.
@@ -20,7 +20,7 @@ pub extern "C" fn vq_header(kind: u32, packet: &[u8]) -> PacketHeader
 pub extern "C" fn vq_record(kind: u32, packet: &[u8], index: usize) -> PacketRecord
     ensures { RecordShown kind packet.now index result }
 {
-    packet_fields::record(kind, packet, index)
+    PacketRecord::from(packet_fields::record(kind, packet, index))
 }
 
 // The record of a packet of a kind that starts at `at`, and the offset behind it; 5, 6.
@@ -28,7 +28,9 @@ pub extern "C" fn vq_record(kind: u32, packet: &[u8], index: usize) -> PacketRec
 pub extern "C" fn vq_step(kind: u32, packet: &[u8], at: usize) -> PacketStep
     ensures { StepShown kind packet.now at result }
 {
-    packet_fields::step(kind, packet, Cursor { at })
+    let mut cursor = Cursor { at };
+    let record = packet_fields::step(kind, packet, &mut cursor);
+    PacketStep::new(record, cursor)
 }
 
 // Point `index` of a packet of kind 16 in millimetres by an edition; 5, 7, 6, 32, then 30 or 31.
@@ -36,5 +38,5 @@ pub extern "C" fn vq_step(kind: u32, packet: &[u8], at: usize) -> PacketStep
 pub extern "C" fn vq_point(edition: u32, packet: &[u8], index: usize) -> PacketPoint
     ensures { result ≡ point_of edition packet.now index }
 {
-    packet_points::point(edition, packet, index)
+    PacketPoint::from(packet_points::point(edition, packet, index))
 }

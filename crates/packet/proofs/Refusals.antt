@@ -21,12 +21,17 @@ use Rattle.std.specs.declared.option.Option.TheVariants.{Some, None}
 use Rattle.packet.specs.declared.PacketHeader.{PacketHeader}
 use Rattle.packet.specs.declared.PacketRecord.{PacketRecord}
 use Rattle.packet.specs.declared.PacketStep.{PacketStep}
-use Rattle.packet.specs.declared.PacketPoints.{PacketPoints}
+use Rattle.packet.specs.declared.Points.{Points}
+use Rattle.std.specs.declared.result.Result.{Result}
+use Rattle.std.specs.declared.result.Result.TheVariants.{Err}
+use Rattle.refusals.specs.declared.Refusal.{Refusal}
+use Rattle.refusals.specs.declared.Refusal.TheVariants.{NotOneFrame}
+use Rattle.refusals.specs.Numbers.{refusal_number}
 use Rattle.packet.specs.declared.PacketPoint.{PacketPoint}
 use Rattle.packet.specs.Walk.{objects_of, records_of, record_at, starts_among, IsFirst}
 use Rattle.packet.specs.Fields.{is_packet, no_header, header_shown, header_of}
 use Rattle.packet.specs.Fields.{no_record, record_shown, record_read, record_of, no_step, step_shown, step_read, step_of}
-use Rattle.packet.specs.Fields.{no_points, points_found, point_record, points_read, points_of}
+use Rattle.packet.specs.Fields.{points_found, point_record, points_read, points_of}
 use Rattle.packet.specs.Fields.{no_point, point_from, point_at, point_found, point_read, point_of}
 use Rattle.packet.specs.Refusals.{PacketOf, HeaderRefusals, RecordRefusals, StepRefusals, RecordStarts, PointsRefusals, HasPoints}
 use Rattle.packet.specs.Refusals.{Measured, PointThere, PointRefusals}
@@ -135,23 +140,23 @@ missing_lacks bs m h = missing_none 1 bs (records_of bs) 40 m h.0 h.1 h.2
 pub points_refusals : (bs : List ℕ) → PointsRefusals bs
 unfolding points_of
 points_refusals bs = record {
-  answers = number_exactly 16 bs number (points_read bs) (no_points 5) refl 0 (λ e. omega arith) (zero_exactly (point_record bs) refl);
-  no_packet = five_exactly 16 bs number (points_read bs) (no_points 5) refl (not_five (point_record bs));
-  none = number_exactly 16 bs number (points_read bs) (no_points 5) refl 7 (λ e. omega arith) (seven_exactly (point_record bs) refl);
+  answers = number_exactly 16 bs refusal_number (points_read bs) refused refl 0 (λ e. omega arith) (zero_exactly (point_record bs) refl);
+  no_packet = five_exactly 16 bs refusal_number (points_read bs) refused refl (not_five (point_record bs));
+  none = number_exactly 16 bs refusal_number (points_read bs) refused refl 7 (λ e. omega arith) (seven_exactly (point_record bs) refl);
 }
   where
-    number : PacketPoints → ℕ
-    number answer = answer.refusal
+    refused : Result Points Refusal
+    refused = Err NotOneFrame
 
-    zero_exactly : (f : Option ℕ) → point_record bs ≡ f → ((points_found (objects_of bs) f).refusal ≡ 0) ↔ HasPoints bs
+    zero_exactly : (f : Option ℕ) → point_record bs ≡ f → (refusal_number (points_found (objects_of bs) f) ≡ 0) ↔ HasPoints bs
     zero_exactly (Some q) a = (λ h. found_has bs q a, λ h. refl)
     zero_exactly None m = (λ h. absurd (omega arith), λ h. absurd (missing_lacks bs m h))
 
-    seven_exactly : (f : Option ℕ) → point_record bs ≡ f → ((points_found (objects_of bs) f).refusal ≡ 7) ↔ (HasPoints bs → ⊥)
+    seven_exactly : (f : Option ℕ) → point_record bs ≡ f → (refusal_number (points_found (objects_of bs) f) ≡ 7) ↔ (HasPoints bs → ⊥)
     seven_exactly (Some q) a = (λ h. absurd (omega arith), λ n. absurd (n (found_has bs q a)))
     seven_exactly None m = (λ h. missing_lacks bs m, λ n. refl)
 
-    not_five : (f : Option ℕ) → (points_found (objects_of bs) f).refusal ≡ 5 → ⊥
+    not_five : (f : Option ℕ) → refusal_number (points_found (objects_of bs) f) ≡ 5 → ⊥
     not_five (Some q) h = omega arith
     not_five None h = omega arith
 

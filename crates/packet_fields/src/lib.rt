@@ -1,15 +1,16 @@
 // The records of one whole packet of the kind named, and a cursor over them (paper 01, "Fields"; paper 02, (i)).
 #![tactic(auto)]
 
-ghost use Rattle.std.specs.Prelude.{◌≡◌, suc, ◌≤◌};
+ghost use Rattle.std.specs.Prelude.{◌≡◌, suc, ◌≤◌, Ok};
 ghost use Rattle.packet.specs.Walk.{records_of, end_at, record_at, starts_among};
-ghost use Rattle.packet.specs.Fields.{no_record, record_shown, record_read, RecordShown, no_step, step_shown, step_read, StepShown};
+ghost use Rattle.packet.specs.Fields.{packet_record_of, record_shown, record_read, RecordShown};
+ghost use Rattle.packet.specs.Fields.{packet_step_of, cursor_behind, step_read, StepShown};
 ghost use Rattle.packet.specs.Internal.{Walkable};
 
-use form::Judgement;
 use mmwave::Header;
-use packet::{Cursor, PacketRecord, PacketStep};
-use packet_header::{NO_SUCH_INDEX, NOT_ONE_PACKET, RECORD_HEADER, dialect_named, payload_length};
+use packet::{Cursor, Record};
+use packet_header::{RECORD_HEADER, check_packet, payload_length};
+use refusals::Refusal;
 
 // -- The walk over the records
 
@@ -50,125 +51,68 @@ fn starts(s: &[u8], p: usize, k: u32, at: usize) -> bool
 
 // -- Records
 
-fn no_record(refusal: u32) -> PacketRecord
-    ensures { result ≡ no_record refusal }
-{
-    PacketRecord {
-        refusal,
-        tag: 0,
-        start: 0,
-        length: 0,
-    }
-}
-
 // The record that starts at `p`.
-fn record_from(s: &[u8], p: usize) -> PacketRecord
+fn record_from(s: &[u8], p: usize) -> Record
     requires { p ≤ 32768 }
-    ensures { result ≡ record_shown s.now p }
+    ensures { packet_record_of (Ok result) ≡ record_shown s.now p }
 {
-    let tag = numbers::word_at(s, p);
-    let length = payload_length(s, p) as usize;
-    let start = p + RECORD_HEADER;
-    PacketRecord {
-        refusal: 0,
-        tag,
-        start,
-        length,
+    Record {
+        tag: numbers::word_at(s, p),
+        start: p + RECORD_HEADER,
+        length: payload_length(s, p) as usize,
     }
 }
 
 // Record `index` of a packet.
-fn read_record(s: &[u8], index: usize) -> PacketRecord
+fn read_record(s: &[u8], index: usize) -> Result<Record, Refusal>
     requires { Walkable s.now (records_of s.now) 40 }
-    ensures { result ≡ record_read s.now index }
+    ensures { packet_record_of result ≡ record_read s.now index }
 {
     let records = numbers::word_at(s, Header::RECORDS) as usize;
     if records <= index {
-        return no_record(NO_SUCH_INDEX);
+        return Err(Refusal::NoSuchIndex);
     }
     let p = place(s, Header::SIZE, index);
-    record_from(s, p)
+    Ok(record_from(s, p))
 }
 
 // Record `index` of the packet of this kind: its type and the part of the slice that is its payload; 5, or 6 for an index at or over the
 // record count.
-pub fn record(kind: u32, packet: &[u8], index: usize) -> PacketRecord
-    ensures { RecordShown kind packet.now index result }
+pub fn record(kind: u32, packet: &[u8], index: usize) -> Result<Record, Refusal>
+    ensures { RecordShown kind packet.now index (packet_record_of result) }
 {
-    let Some(d) = dialect_named(kind) else {
-        return no_record(NOT_ONE_PACKET);
-    };
-    let Judgement::Whole(found, length) = mmwave_judge::judge(packet, d) else {
-        return no_record(NOT_ONE_PACKET);
-    };
-    if found != kind {
-        return no_record(NOT_ONE_PACKET);
-    }
-    if length != packet.len() {
-        return no_record(NOT_ONE_PACKET);
-    }
+    check_packet(kind, packet)?;
     read_record(packet, index)
 }
 
 // -- The cursor
 
-fn no_step(at: usize, refusal: u32) -> PacketStep
-    ensures { result ≡ no_step at refusal }
-{
-    PacketStep {
-        refusal,
-        tag: 0,
-        start: 0,
-        length: 0,
-        next: Cursor { at },
-    }
-}
-
-// The step over the record that starts at `p`.
-fn step_from(s: &[u8], p: usize) -> PacketStep
-    requires { p ≤ 32768 }
-    ensures { result ≡ step_shown s.now p }
-{
-    let shown = record_from(s, p);
-    let at = behind(s, p);
-    PacketStep {
-        refusal: 0,
-        tag: shown.tag,
-        start: shown.start,
-        length: shown.length,
-        next: Cursor { at },
-    }
-}
-
-// The step from `at` in a packet.
-fn read_step(s: &[u8], at: usize) -> PacketStep
+// The record of a packet that starts at `at`.
+fn read_step(s: &[u8], at: usize) -> Result<Record, Refusal>
     requires { Walkable s.now (records_of s.now) 40 }
-    ensures { result ≡ step_read s.now at }
+    ensures { packet_step_of result (cursor_behind at result) ≡ step_read s.now at }
 {
     let records = numbers::word_at(s, Header::RECORDS);
-    if starts(s, Header::SIZE, records, at) {
-        return step_from(s, at);
+    if !starts(s, Header::SIZE, records, at) {
+        return Err(Refusal::NoSuchIndex);
     }
-    no_step(at, NO_SUCH_INDEX)
+    Ok(record_from(s, at))
 }
 
-// The record of the packet of this kind that starts at the cursor, and the cursor behind it; 5, or 6 where no record starts there.
-// From 40 on, steps give record 0, 1, .. and then 6.
-pub fn step(kind: u32, packet: &[u8], cursor: Cursor) -> PacketStep
-    ensures { StepShown kind packet.now cursor.at result }
+// The record of the packet of this kind that starts at the cursor; 5, or 6 where no record starts there.
+pub fn peek(kind: u32, packet: &[u8], cursor: Cursor) -> Result<Record, Refusal>
+    ensures { StepShown kind packet.now cursor.at (packet_step_of result (cursor_behind cursor.at result)) }
 {
-    let at = cursor.at;
-    let Some(d) = dialect_named(kind) else {
-        return no_step(at, NOT_ONE_PACKET);
-    };
-    let Judgement::Whole(found, length) = mmwave_judge::judge(packet, d) else {
-        return no_step(at, NOT_ONE_PACKET);
-    };
-    if found != kind {
-        return no_step(at, NOT_ONE_PACKET);
-    }
-    if length != packet.len() {
-        return no_step(at, NOT_ONE_PACKET);
-    }
-    read_step(packet, at)
+    check_packet(kind, packet)?;
+    read_step(packet, cursor.at)
+}
+
+// The record of the packet of this kind that starts at the cursor, which moves behind it; 5, or 6 where no record starts there, and the
+// cursor stays. From 40 on, steps give record 0, 1, .. and then 6.
+pub fn step(kind: u32, packet: &[u8], cursor: &mut Cursor) -> Result<Record, Refusal>
+    ensures { StepShown kind packet.now cursor.old.at (packet_step_of result cursor.new) }
+{
+    let record = peek(kind, packet, *cursor)?;
+    cursor.at = record.start + record.length;
+    Ok(record)
 }

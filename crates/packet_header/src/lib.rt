@@ -1,26 +1,25 @@
 // The header of one whole packet of the kind named, and the payload length in a record's header (paper 01, "Fields"; paper 02, (i)).
 #![tactic(auto)]
 
-ghost use Rattle.std.specs.Prelude.{◌≡◌};
+ghost use Rattle.std.specs.Prelude.{◌≡◌, cond};
+ghost use Rattle.refusals.specs.declared.Refusal.TheVariants.{NotOneFrame};
 ghost use Rattle.packet.specs.Walk.{length_at};
-ghost use Rattle.packet.specs.Fields.{dialect_named, no_header, header_shown, header_of};
+ghost use Rattle.packet.specs.Fields.{dialect_named, is_packet, packet_header_of, header_shown, header_of};
 
 use form::Judgement;
 use mmwave::{Header, PacketDialect};
 use mmwave_dialects::{KIND, VITAL_KIND};
-use packet::PacketHeader;
-
-// Refusals (paper 01, "Refusal numbers").
-pub const NOT_ONE_PACKET: u32 = 5;
-
-pub const NO_SUCH_INDEX: u32 = 6;
+use refusals::Refusal;
 
 // A record's header: type and payload length.
 pub const RECORD_HEADER: usize = 8;
 
 const LENGTH_FIELD: usize = 4;
 
+// -- One whole packet
+
 // The dialect whose packets have this kind.
+#[tactic(auto, unfolding(packet::specs::Fields::dialect_named))]
 pub fn dialect_named(kind: u32) -> Option<PacketDialect>
     ensures { result ≡ dialect_named kind }
 {
@@ -33,32 +32,37 @@ pub fn dialect_named(kind: u32) -> Option<PacketDialect>
     None
 }
 
-// -- The packet's header
-
-fn no_header() -> PacketHeader
-    ensures { result ≡ no_header 5 }
+// Whether the slice is exactly one whole packet of this kind, 16 or 17.
+fn is_packet(kind: u32, packet: &[u8]) -> bool
+    ensures { result ≡ is_packet kind packet.now }
 {
-    let fields = Header {
-        version: 0,
-        total: 0,
-        platform: 0,
-        frame: 0,
-        time: 0,
-        objects: 0,
-        records: 0,
-        subframe: 0,
+    let Some(dialect) = dialect_named(kind) else {
+        return false;
     };
-    PacketHeader {
-        refusal: NOT_ONE_PACKET,
-        fields,
+    let Judgement::Whole(found, length) = mmwave_judge::judge(packet, dialect) else {
+        return false;
+    };
+    found == kind && length == packet.len()
+}
+
+// The test that each field reader of packets begins with: 5 if the slice is not exactly one whole packet of this kind.
+pub fn check_packet(kind: u32, packet: &[u8]) -> Result<(), Refusal>
+    ensures { result ≡ cond (is_packet kind packet.now) (Ok tt) (Err NotOneFrame) }
+{
+    if is_packet(kind, packet) {
+        Ok(())
+    } else {
+        Err(Refusal::NotOneFrame)
     }
 }
 
+// -- The packet's header
+
 // The eight words at their offsets.
-fn read_header(s: &[u8]) -> PacketHeader
-    ensures { result ≡ header_shown s.now }
+fn read_header(s: &[u8]) -> Header
+    ensures { packet_header_of (Ok result) ≡ header_shown s.now }
 {
-    let fields = Header {
+    Header {
         version: numbers::word_at(s, Header::VERSION),
         total: numbers::word_at(s, Header::TOTAL),
         platform: numbers::word_at(s, Header::PLATFORM),
@@ -67,27 +71,15 @@ fn read_header(s: &[u8]) -> PacketHeader
         objects: numbers::word_at(s, Header::OBJECTS),
         records: numbers::word_at(s, Header::RECORDS),
         subframe: numbers::word_at(s, Header::SUBFRAME),
-    };
-    PacketHeader { refusal: 0, fields }
+    }
 }
 
 // The header's eight fields, or 5 if the slice is not exactly one whole packet of this kind, 16 or 17.
-pub fn header(kind: u32, packet: &[u8]) -> PacketHeader
-    ensures { result ≡ header_of kind packet.now }
+pub fn header(kind: u32, packet: &[u8]) -> Result<Header, Refusal>
+    ensures { packet_header_of result ≡ header_of kind packet.now }
 {
-    let Some(d) = dialect_named(kind) else {
-        return no_header();
-    };
-    let Judgement::Whole(found, length) = mmwave_judge::judge(packet, d) else {
-        return no_header();
-    };
-    if found != kind {
-        return no_header();
-    }
-    if length != packet.len() {
-        return no_header();
-    }
-    read_header(packet)
+    check_packet(kind, packet)?;
+    Ok(read_header(packet))
 }
 
 // -- A record's header

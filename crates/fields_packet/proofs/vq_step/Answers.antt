@@ -1,5 +1,0 @@
--- `fields_packet::vq_step` meets its contract: it hands on what it is handed, and the answer's promise is the one called.
-use Rattle.fields_packet.proofs.vq_step.Goals as goal
-
-pub returns : goal.returns
-returns c = c.step.ensures

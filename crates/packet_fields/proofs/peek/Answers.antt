@@ -1,0 +1,15 @@
+-- `packet_fields::peek` meets its contract: 5, or what is read of a packet of the kind.
+use Rattle.std.proofs.Common.{rules, ◌≡◌, Err}
+use Rattle.packet.proofs.FieldLaws.{passed, walks, step_refused, step_read_lem}
+use Rattle.packet_fields.proofs.peek.Goals as goal
+
+pub returns-in_err-check_packet : goal.returns-in_err-check_packet
+returns-in_err-check_packet c =
+    let e : c.from_residual.result ≡ Err c.in_err-check_packet.field-0.0 = search rules in
+    rw e (step_refused _ _ c.check_packet.ensures _ c.in_err-check_packet.was)
+
+pub read_step-requires : goal.read_step-requires
+read_step-requires c = walks _ _ (passed _ _ c.check_packet.ensures c.in_ok-check_packet.was)
+
+pub returns : goal.returns
+returns c = step_read_lem _ _ c.check_packet.ensures _ c.in_ok-check_packet.was c.read_step.ensures
