@@ -18,5 +18,6 @@ pub extern "C" fn vq_feed(
     ensures { Feeds dialect stream carry.old bytes.now table.old
         result carry.new table.new }
 {
-    capture_feed::feed(dialect, stream, carry, bytes, table)
+    let answer = capture_feed::feed(dialect, stream, carry, bytes, table);
+    capture_feed::fed_of(stream, answer)
 }

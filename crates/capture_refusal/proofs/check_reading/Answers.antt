@@ -1,7 +1,7 @@
--- `capture_refusal::reading_refusal` meets its contract. One law for each answer.
-use native.Mathlib.Omega.{arith}
+-- `capture_refusal::check_reading` meets its contract. One law for each answer.
+use Rattle.std.proofs.Common.{arith}
 use Rattle.capture.proofs.FeedLaws.{refuses_none, counted_within, refuses_61, refuses_60, refuses_0}
-use Rattle.capture_refusal.proofs.reading_refusal.Goals as goal
+use Rattle.capture_refusal.proofs.check_reading.Goals as goal
 
 pub returns-then-is_sure : goal.returns-then-is_sure
 returns-then-is_sure c = refuses_none _ _ _ _ _ _ (rw c.longest_of.ensures at (c.is_sure.ensures c.if-is_sure.true))
@@ -15,14 +15,12 @@ returns-then-room-counted c =
 pub overflow_sub-counted : goal.overflow_sub-counted
 overflow_sub-counted c =
     let a = c.args in
-    (counted_within a.d a.waiting.now a.bytes.now a.offset a.carry a.table.now c.requires
-    c.read_both-counted.ensures).0
+    (counted_within a.d a.waiting.now a.bytes.now a.offset a.carry a.table.now c.requires c.read_both-counted.ensures).0
 
 pub overflow_sub-n : goal.overflow_sub-n
 overflow_sub-n c =
     let a = c.args in
-    let read = c.read_both-counted.ensures in
-    omega (arith, counted_within a.d a.waiting.now a.bytes.now a.offset a.carry a.table.now c.requires read)
+    omega (arith, counted_within a.d a.waiting.now a.bytes.now a.offset a.carry a.table.now c.requires c.read_both-counted.ensures)
 
 pub returns-then-carry-n : goal.returns-then-carry-n
 returns-then-carry-n c =
