@@ -26,8 +26,10 @@ MISSING = re.compile(r"has no field|is not in scope|has no `|can be named from h
 
 
 def items(source):
-    """The functions and constants of a source: name, whether it is a function, and where its text starts and ends."""
-    for found in re.finditer(r'^( *)(?:pub )?(?:extern "C" )?fn (\w+).*?^\1\}$|^ *(?:pub )?const (\w+).*?;$', source, re.M | re.S):
+    """The functions, with their attributes, and the constants of a source: name, whether it is a function, and where its text starts and
+    ends."""
+    function = r'^(?: *#\[[^\n]*\]\n)*( *)(?:pub )?(?:extern "C" )?fn (\w+).*?^\1\}$'
+    for found in re.finditer(function + r"|^ *(?:pub )?const (\w+).*?;$", source, re.M | re.S):
         yield found[2] or found[3], found[2] is not None, found.start(), found.end()
 
 

@@ -26,7 +26,7 @@ use Rattle.packet.specs.declared.PacketHeader.{PacketHeader}
 use Rattle.packet.specs.declared.PacketRecord.{PacketRecord}
 use Rattle.packet.specs.declared.PacketStep.{PacketStep}
 use Rattle.packet.specs.declared.PacketPoint.{PacketPoint}
-use Rattle.demorad.specs.Reading.{refused_command, read_command}
+use Rattle.demorad.specs.Reading.{read_command, answer_numbers, refused_command}
 use Rattle.demorad.specs.Refusals.{Unreadable, First}
 use Rattle.demorad.specs.declared.Command.{Command}
 use Rattle.capture.specs.Dialects.{dialect_of}
@@ -135,7 +135,7 @@ PointRefuses =
 -- the first of 40 to 46 whose condition holds, and zeros beside it
 abbrev pub CommandReaderRefuses : Type 0
 CommandReaderRefuses =
-    (bs : List ℕ) → Refuses (First (Unreadable bs)) refused_command (λ (a : Command). a.refusal) (read_command bs)
+    (bs : List ℕ) → Refuses (First (Unreadable bs)) refused_command (λ (a : ℕ × Command). a.0) (answer_numbers (read_command bs))
 
 -- -- Numbers: 50; 32, before 30 and 31 (paper 02, (iv))
 

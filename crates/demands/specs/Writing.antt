@@ -6,7 +6,7 @@
 -- and `listing_text::write_listing` by 0 and `listing`. `out` is the lent buffer at entry, `after` at exit, `r` the answer.
 -- Stated, and not proved here yet.
 use Rattle.std.specs.Prelude.{Bool, true, false, cond, ◌&&◌, ◌||◌, ◌≡◌, List, [], ◌∷◌, ◌++◌, ℕ, ◌+◌, ◌-◌, ◌%◌, ◌^◌, ◌<◌, ◌≤◌, eqb}
-use Rattle.std.specs.Prelude.{leb, length, take, drop, get_or, replicate}
+use Rattle.std.specs.Prelude.{leb, length, take, drop, get_or, replicate, Ok}
 use Rattle.digits.specs.Bytes.{Below, Bytes, within, is_character}
 use Rattle.digits.specs.Stores.{Writes}
 use Rattle.digits.specs.declared.Written.{Written}
@@ -23,6 +23,7 @@ use Rattle.demorad.specs.Image.{command_bytes}
 use Rattle.demorad.specs.Rules.{legality}
 use Rattle.demorad.specs.Reading.{read_command, command, padded}
 use Rattle.demorad.specs.Refusals.{Unwritable, First}
+use Rattle.demorad.specs.declared.Command.{Command}
 use Rattle.demands.specs.Words.{none, ◌when◌else◌}
 
 -- -- Which bytes change
@@ -148,7 +149,7 @@ abbrev pub CommandReadsBack : Type 0
 CommandReadsBack =
     (rd : Bool) (code count : ℕ) (words out : List ℕ) (r : Written) (after : List ℕ) → Below (2 ^ 32) words → length words ≡ 30
     → Writes (legality code count words) (command_bytes rd code count words) out r after → r.refusal ≡ 0
-    → read_command (take r.size after) ≡ command rd code count (padded (take count words))
+    → read_command (take r.size after) ≡ Ok (command rd code count (padded (take count words)))
 
 -- -- "SiRad read and written again is the same but for reserved bytes, now `0`" (paper 01, "Refusal numbers"), and but for fourteen bytes
 -- of
@@ -204,7 +205,6 @@ ReservedBytesChange =
 -- commands
 abbrev pub CommandWritesBack : Type 0
 CommandWritesBack =
-    (bs out : List ℕ) (r : Written) (after : List ℕ) → Bytes bs → (read_command bs).refusal ≡ 0 → length bs ≤ length out
-    → Writes (legality (read_command bs).code (read_command bs).count (read_command bs).words)
-    (command_bytes (read_command bs).rd (read_command bs).code (read_command bs).count (read_command bs).words) out r after
+    (bs out : List ℕ) (r : Written) (after : List ℕ) → Bytes bs → (c : Command) → read_command bs ≡ Ok c → length bs ≤ length out
+    → Writes (legality c.code c.count c.words) (command_bytes c.rd c.code c.count c.words) out r after
     → (r.refusal ≡ 0) × (after ≡ bs ++ drop (length bs) out)

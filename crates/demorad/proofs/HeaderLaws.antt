@@ -1,11 +1,6 @@
 -- The header word and its fields, both directions. Fields at different bits are told apart by dividing in steps.
-use mathlib.Core.Path.{◌≡◌, refl}
-use mathlib.Core.Bool.{Bool, true, false}
-use Prim.Native.Nat.{ℕ, zero, suc, ◌+◌, ◌-◌, ◌*◌, ◌/◌, ◌^◌, ◌<◌, ◌≤◌}
-use native.Mathlib.Omega.{arith}
-use borrow.Author.Tests.{eq-eqb, ne_eqb}
-use lib.Dec.{eqb}
-use lib.Pow.{shr-shr}
+use Rattle.std.proofs.Common.{◌≡◌, refl, Bool, true, false, ℕ, zero, suc, ◌+◌, ◌-◌, ◌*◌, ◌/◌, ◌^◌, ◌<◌, ◌≤◌, arith, eq-eqb, ne_eqb, eqb}
+use Rattle.std.proofs.Common.{shr-shr}
 use Rattle.demorad.specs.Image.{flag_bit, header_word}
 use Rattle.demorad.specs.Reading.{bits, rd_of, rest_of, length_of, code_of}
 

@@ -1,31 +1,28 @@
 -- A command is refused with the first number whose condition holds. The two case distinctions, `Framing` and `Verdict`, give the condition
 -- that holds; every earlier one contradicts a fact of the same case.
-use mathlib.Core.Path.{◌≡◌, refl, sym, ap, ◌∙◌, subst}
-use mathlib.Core.Bool.{Bool, true, false, cond}
-use mathlib.Core.List.{List}
-use Prim.Native.Nat.{ℕ, zero, suc, ◌+◌, ◌-◌, ◌*◌, ◌/◌, ◌%◌, ◌^◌, ◌<◌, ◌≤◌}
+use Rattle.std.proofs.Common.{◌≡◌, refl, sym, ap, ◌∙◌, subst, Bool, cond, List, ℕ, zero, suc, ◌+◌, ◌-◌, ◌*◌, ◌/◌, ◌%◌, ◌^◌, ◌<◌, ◌≤◌}
+use Rattle.std.proofs.Common.{add-one, arith, eq-eqb, ne_eqb, le-leb, eqb, shr-shr, length, Option, Some, Result}
+use Rattle.std.specs.Prelude.{⊤}
 use native.Mathlib.Nat.{zero-div}
-use native.Mathlib.Numerals.{add-one}
 use native.Mathlib.Decide.{dec_le, ℕ_discrete}
-use native.Mathlib.Omega.{arith}
-use borrow.Author.Tests.{eq-eqb, ne_eqb, le-leb, lt-leb}
-use lib.Dec.{eqb}
-use lib.Pow.{shr-shr, mod-pow-add, field}
-use lib.ListN.{length}
+use borrow.Author.Tests.{lt-leb}
+use lib.Pow.{mod-pow-add, field}
+use Rattle.refusals.specs.Numbers.{refusal_number}
+use Rattle.refusals.specs.declared.Refusal.{Refusal}
 use Rattle.digits.specs.Stores.{Writes, writer_answer}
 use Rattle.digits.specs.declared.Written.{Written}
-use Rattle.digits.proofs.Choices.{both_ways}
-use Rattle.demorad.specs.Rules.{rules, lookup, rule_of, legality}
+use Rattle.demorad.specs.Rules.{rules, rule_of, selected, checked, legality}
 use Rattle.demorad.specs.Image.{command_bytes}
 use Rattle.demorad.specs.Reading.{bits, rest_of, length_of, code_of, header_of, count_of, payload_of, read_refusal, read_command}
-use Rattle.demorad.specs.Refusals.{Absent, Listed, First}
+use Rattle.demorad.specs.Refusals.{Listed, First}
 use Rattle.demorad.specs.Refusals.{Illegal, unknown_code, too_few, too_many, over_thirty, wrong_selection}
 use Rattle.demorad.specs.Refusals.{Unreadable, too_short, rest_bit, no_length, wrong_size, illegal_read}
 use Rattle.demorad.specs.Refusals.{Unwritable, illegal_write, no_room}
 use Rattle.demorad.specs.declared.Rule.{Rule}
-use Rattle.demorad.proofs.RuleLaws.{most_small, known_listed, listed_rule, absent_unknown, unknown_absent, all_known, selected}
+use Rattle.demorad.specs.declared.Selection.{Selection}
+use Rattle.demorad.proofs.RuleLaws.{tabled, known_listed, listed_rule, absent_unknown, unknown_absent}
 use Rattle.demorad.proofs.RuleLaws.{Verdict, unknown, few, many, out, fine, verdict}
-use Rattle.demorad.proofs.ReadingLaws.{Framing, short, rest, empty, size, framed, framing_view}
+use Rattle.demorad.proofs.ReadingLaws.{Framing, short, rest, empty, size, whole, framing_view}
 use Rattle.demorad.proofs.RoundTrips.{refusal_read}
 
 -- -- The rest bits, one by one
@@ -83,85 +80,76 @@ module _ (code count : ℕ) (words : List ℕ) where
   illegal_from (too_few rule l h) = omega arith
   illegal_from (too_many rule l h) = omega arith
   illegal_from (over_thirty h) = omega arith
-  illegal_from (wrong_selection rule l s h) = omega arith
+  illegal_from (wrong_selection rule s l e h) = omega arith
 
   illegal_to : {n : ℕ} → Illegal code count words n → n ≤ 46
   illegal_to (unknown_code a) = omega arith
   illegal_to (too_few rule l h) = omega arith
   illegal_to (too_many rule l h) = omega arith
   illegal_to (over_thirty h) = omega arith
-  illegal_to (wrong_selection rule l s h) = omega arith
+  illegal_to (wrong_selection rule s l e h) = omega arith
 
-  -- no condition below n holds once the facts that come before n do
-  legal_below : (n : ℕ) → (44 < n → (rule_of code).known ≡ true) → (45 < n → (rule_of code).least ≤ count)
-      → (45 < n → count ≤ (rule_of code).most)
-      → (46 < n → (rule_of code).selects ≡ true → selected (rule_of code) words ≤ (rule_of code).top)
+  -- a listed rule is the code's
+  same_rule : (rule r : Rule) → rule_of code ≡ Some rule → Listed code r rules → rule ≡ r
+  same_rule rule r k p = let e = listed_rule code r p in cc
+
+  -- no condition below n holds once the facts of the code's rule that come before n do
+  legal_below : (n : ℕ) (rule : Rule) → rule_of code ≡ Some rule → (45 < n → rule.least ≤ count) → (45 < n → count ≤ rule.most)
+      → (46 < n → (s : Selection) → rule.selection ≡ Some s → selected s words ≤ s.top)
       → (m : ℕ) → m < n → Illegal code count words m → ⊥
   unfolding rule_of
-  legal_below n k l u s m h (unknown_code a) =
-      both_ways (lookup code rules).known (k h) (ap (λ (r : Rule). r.known) (absent_unknown code rules a))
-  legal_below n k l u s m h (too_few rule p q) =
-      let e = ap (λ (r : Rule). r.least) (listed_rule code rule p).0 in
+  legal_below n rule k l u s m h (unknown_code a) = let e = absent_unknown code rules a in cc
+  legal_below n rule k l u s m h (too_few r p q) =
+      let e = ap (λ (r : Rule). r.least) (same_rule rule r k p) in
       let f = l h in
       omega arith
-  legal_below n k l u s m h (too_many rule p q) =
-      let e = ap (λ (r : Rule). r.most) (listed_rule code rule p).0 in
+  legal_below n rule k l u s m h (too_many r p q) =
+      let e = ap (λ (r : Rule). r.most) (same_rule rule r k p) in
       let f = u h in
       omega arith
-  legal_below n k l u s m h (over_thirty q) = let b = most_small code in let f = u h in omega arith
-  legal_below n k l u s m h (wrong_selection rule p t q) =
-      let e = (listed_rule code rule p).0 in
-      let f = s h (sym (ap (λ (r : Rule). r.selects) e) ∙ t) in
-      let g : rule.top ≡ (rule_of code).top = ap (λ (r : Rule). r.top) e in
-      let w : selected rule words ≡ selected (rule_of code) words = ap (λ (r : Rule). selected r words) e in
-      omega arith
-
-  known_row : (rule_of code).known ≡ true → Listed code (rule_of code) rules
-  unfolding rule_of
-  known_row k = known_listed code rules k
-
-  unknown_row : (rule_of code).known ≡ false → Absent code rules
-  unfolding rule_of
-  unknown_row k = unknown_absent code rules all_known k
+  legal_below n rule k l u s m h (over_thirty q) = let b = (tabled code rule k).most in let f = u h in omega arith
+  legal_below n rule k l u s m h (wrong_selection r t p e q) =
+      let f = s h t (ap (λ (r : Rule). r.selection) (same_rule rule r k p) ∙ e) in omega arith
 
   -- the verdict is the first condition that holds
-  verdict_first : {n : ℕ} → Verdict (rule_of code) count words n → First (Illegal code count words) n
-  verdict_first (unknown k) =
+  verdict_first : {o : Option Rule} {v : Result ⊤ Refusal} → Verdict count words o v → rule_of code ≡ o
+      → First (Illegal code count words) (refusal_number v)
+  unfolding rule_of
+  verdict_first unknown k =
       record {
         none = λ z. absurd (omega arith);
-        holds = λ z. unknown_code (unknown_row k);
-        least =
-            legal_below 44 (λ h. absurd (omega arith)) (λ h. absurd (omega arith)) (λ h. absurd (omega arith)) (λ h. absurd (omega arith));
+        holds = λ z. unknown_code (unknown_absent code rules k);
+        least = λ m h i. let f = illegal_from i in omega arith;
       }
-  verdict_first (few k l) =
+  verdict_first (few rule l) k =
       record {
         none = λ z. absurd (omega arith);
-        holds = λ z. too_few (rule_of code) (known_row k) l;
-        least = legal_below 45 (λ h. k) (λ h. absurd (omega arith)) (λ h. absurd (omega arith)) (λ h. absurd (omega arith));
+        holds = λ z. too_few rule (known_listed code rule rules k) l;
+        least = legal_below 45 rule k (λ h. absurd (omega arith)) (λ h. absurd (omega arith)) (λ h. absurd (omega arith));
       }
-  verdict_first (many k l) =
+  verdict_first (many rule l) k =
       record {
         none = λ z. absurd (omega arith);
-        holds = λ z. too_many (rule_of code) (known_row k) l;
-        least = legal_below 45 (λ h. k) (λ h. absurd (omega arith)) (λ h. absurd (omega arith)) (λ h. absurd (omega arith));
+        holds = λ z. too_many rule (known_listed code rule rules k) l;
+        least = legal_below 45 rule k (λ h. absurd (omega arith)) (λ h. absurd (omega arith)) (λ h. absurd (omega arith));
       }
-  verdict_first (out k l u s o) =
+  verdict_first (out rule s l u e q) k =
       record {
         none = λ z. absurd (omega arith);
-        holds = λ z. wrong_selection (rule_of code) (known_row k) s o;
-        least = legal_below 46 (λ h. k) (λ h. l) (λ h. u) (λ h. absurd (omega arith));
+        holds = λ z. wrong_selection rule s (known_listed code rule rules k) e q;
+        least = legal_below 46 rule k (λ h. l) (λ h. u) (λ h. absurd (omega arith));
       }
-  verdict_first (fine k l u s) =
+  verdict_first (fine rule l u s) k =
       record {
-        none = λ z n i. legal_below (n + 47) (λ h. k) (λ h. l) (λ h. u) (λ h. s) n (omega arith) i;
+        none = λ z n i. legal_below (n + 47) rule k (λ h. l) (λ h. u) (λ h. s) n (omega arith) i;
         holds = λ z. absurd (z refl);
         least = λ n h. absurd (omega arith);
       }
 
   -- a command's legality is the first of 44 to 46 whose condition holds
   pub legality_first : First (Illegal code count words) (legality code count words)
-  unfolding legality
-  legality_first = verdict_first (verdict (rule_of code) count words)
+  unfolding checked
+  legality_first = verdict_first (verdict count words (rule_of code)) refl
 
 -- -- Reading
 
@@ -183,8 +171,9 @@ module _ (bs : List ℕ) where
   not_yet n l m h i = let f = illegal_from (code_of (header_of bs)) (count_of bs) (payload_of bs) i in omega arith
 
   -- framing first, then legality
-  framing_first : {n : ℕ} → Framing bs n
-      → First (Unreadable bs) (cond (eqb n 0) (legality (code_of (header_of bs)) (count_of bs) (payload_of bs)) n)
+  framing_first : {f : Result ⊤ Refusal} → Framing bs f
+      → First (Unreadable bs)
+      (cond (eqb (refusal_number f) 0) (legality (code_of (header_of bs)) (count_of bs) (payload_of bs)) (refusal_number f))
   framing_first (short l) =
       record {
         none = λ z. absurd (omega arith);
@@ -213,7 +202,7 @@ module _ (bs : List ℕ) where
         holds = λ y. wrong_size s;
         least = framed_below 43 (λ h. l) (λ h. r) (λ h. z) (λ h. absurd (omega arith)) (not_yet 43 (omega arith));
       }
-  framing_first (framed l r z s) =
+  framing_first (whole l r z s) =
       let f = legality_first (code_of (header_of bs)) (count_of bs) (payload_of bs) in
       record {
         none = λ y n. framed_below (suc n) (λ h. l) (λ h. r) (λ h. z) (λ h. s) (λ m h. f.none y m) n (omega arith);
@@ -222,7 +211,7 @@ module _ (bs : List ℕ) where
       }
 
   -- bytes are refused with the first of 40 to 46 whose condition holds, and with 0 exactly if none holds
-  pub refused_first : First (Unreadable bs) (read_command bs).refusal
+  pub refused_first : First (Unreadable bs) (refusal_number (read_command bs))
   unfolding read_refusal
   refused_first = subst (λ (n : ℕ). First (Unreadable bs) n) (sym (refusal_read bs)) (framing_first (framing_view bs))
 

@@ -1,237 +1,187 @@
 -- What the table of rules says of every code, and each case of a command's legality. `Verdict` is the one case distinction that all later
 -- proofs go by.
-use mathlib.Core.Path.{◌≡◌, refl, sym, ◌∙◌, subst}
-use mathlib.Core.Bool.{Bool, true, false, cond}
-use mathlib.Core.List.{List, [], ◌∷◌}
-use mathlib.Core.Logic.{◌⊎◌, inl, inr}
-use Prim.Native.Nat.{ℕ, ◌<◌, ◌≤◌}
+use Rattle.std.proofs.Common.{◌≡◌, refl, sym, ap, ◌∙◌, Bool, true, false, cond, List, [], ◌∷◌, ◌⊎◌, inl, inr, ℕ, ◌<◌, ◌≤◌, arith}
+use Rattle.std.proofs.Common.{le-leb, lt-ltb, le-ltb, eqb-true, ne_eqb, eqb, take, get_or-take, Option, Some, None, IfSome, Result, Ok, Err}
+use Rattle.std.specs.Prelude.{⊤}
 use native.Mathlib.Decide.{dec_le}
-use native.Mathlib.Omega.{arith}
-use borrow.Author.Tests.{le-leb, lt-leb, lt-ltb, le-ltb, eqb-true, eqb-false, ne_eqb}
-use lib.Dec.{eqb}
-use lib.ListN.{get_or, take}
-use lib.Seq.{get_or-take}
-use Rattle.digits.proofs.Choices.{test, both_ways}
-use Rattle.demorad.specs.Rules.{unlisted, rules, lookup, rule_of, judged, legality}
+use borrow.Author.Tests.{lt-leb, eqb-false}
+use Rattle.refusals.specs.Numbers.{refusal_number}
+use Rattle.refusals.specs.declared.Refusal.{Refusal}
+use Rattle.refusals.specs.declared.Refusal.TheVariants.{UnknownCode, WrongCount, WrongSelection}
+use Rattle.demorad.specs.Rules.{rules, lookup, rule_of, selected, chosen, judged, checked, legality}
 use Rattle.demorad.specs.Refusals.{Absent, Listed}
 use Rattle.demorad.specs.declared.Rule.{Rule}
+use Rattle.demorad.specs.declared.Selection.{Selection}
 
 -- -- The table
 
--- every row of the table has the property
-unfoldable pub Every : (ℕ → Rule → Type 0) → List (ℕ × Rule) → Type 0
-Every P [] = Unit {0}
-Every P (row ∷ rows) = P row.0 row.1 × Every P rows
-
-chosen : (P : Rule → Type 0) (t : Bool) (x y : Rule) → P x → P y → P (cond t x y)
-chosen P true x y p q = p
-chosen P false x y p q = q
-
--- what holds of the rows and of an unlisted code holds of every code's rule
-every : (P : Rule → Type 0) (code : ℕ) (rows : List (ℕ × Rule)) → P unlisted → Every (λ c r. P r) rows → P (lookup code rows)
-unfolding Every
-every P code [] u h = u
-every P code (row ∷ rows) u (h, hs) = chosen P (eqb code row.0) row.1 (lookup code rows) h (every P code rows u hs)
-
--- a selection is one of the first two payload words
-pub index_small : (code : ℕ) (rule : Rule) → rule ≡ rule_of code → rule.index < 2
-unfolding rule_of Every
-index_small code rule e =
-    rw e
-    (every (λ r. r.index < 2) code rules (omega arith)
-    (omega arith, (omega arith, (omega arith, (omega arith, (omega arith, (omega arith, (omega arith, tt))))))))
-
--- a rule that does not select has no selection
-unselected : {A : Type 0} → false ≡ true → A
-unselected s = both_ways false s refl
-
--- a selection is among the fewest words of its code
-pub index_counted : (code : ℕ) → (rule_of code).selects ≡ true → (rule_of code).index < (rule_of code).least
-unfolding rule_of Every
-index_counted code =
-    every (λ r. r.selects ≡ true → r.index < r.least) code rules unselected
-    (unselected, (λ s. omega arith, (λ s. omega arith, (unselected, (unselected, (unselected, (λ s. omega arith, tt)))))))
-
--- no code has more than 30 payload words
-pub most_small : (code : ℕ) → (rule_of code).most ≤ 30
-unfolding rule_of Every
-most_small code =
-    every (λ r. r.most ≤ 30) code rules (omega arith)
-    (omega arith, (omega arith, (omega arith, (omega arith, (omega arith, (omega arith, (omega arith, tt)))))))
-
--- a known code has its row
-pub known_listed : (code : ℕ) (rows : List (ℕ × Rule)) → (lookup code rows).known ≡ true → Listed code (lookup code rows) rows
+-- a code that has a rule has its row
+pub known_listed : (code : ℕ) (rule : Rule) (rows : List (ℕ × Rule)) → lookup code rows ≡ Some rule → Listed code rule rows
 unfolding Listed
-known_listed code [] h = both_ways false h refl
-known_listed code (row ∷ rows) h = go (eqb code row.0) refl h (λ k. known_listed code rows k)
+known_listed code rule [] h = cc
+known_listed code rule (row ∷ rows) h = go (eqb code row.0) refl h (λ k. known_listed code rule rows k)
   where
-    go : (t : Bool) → eqb code row.0 ≡ t → (cond t row.1 (lookup code rows)).known ≡ true
-        → ((lookup code rows).known ≡ true → Listed code (lookup code rows) rows)
-        → ((code ≡ row.0) × (cond t row.1 (lookup code rows) ≡ row.1)) ⊎ Listed code (cond t row.1 (lookup code rows)) rows
-    go true e k more = inl (eqb-true code row.0 e, refl)
+    go : (t : Bool) → eqb code row.0 ≡ t → cond t (Some row.1) (lookup code rows) ≡ Some rule
+        → (lookup code rows ≡ Some rule → Listed code rule rows)
+        → ((code ≡ row.0) × (rule ≡ row.1)) ⊎ Listed code rule rows
+    go true e k more = inl (eqb-true code row.0 e, cc)
     go false e k more = inr (more k)
 
--- a row of the table is the rule of its code
-pub listed_rule : (code : ℕ) (rule : Rule) → Listed code rule rules → (rule ≡ rule_of code) × (rule.known ≡ true) × (code < 65536)
-unfolding Listed rule_of
-listed_rule code rule (inl (e, q)) = (rw e q, rw q refl, omega arith)
-listed_rule code rule (inr (inl (e, q))) = (rw e q, rw q refl, omega arith)
-listed_rule code rule (inr (inr (inl (e, q)))) = (rw e q, rw q refl, omega arith)
-listed_rule code rule (inr (inr (inr (inl (e, q))))) = (rw e q, rw q refl, omega arith)
-listed_rule code rule (inr (inr (inr (inr (inl (e, q)))))) = (rw e q, rw q refl, omega arith)
-listed_rule code rule (inr (inr (inr (inr (inr (inl (e, q))))))) = (rw e q, rw q refl, omega arith)
-listed_rule code rule (inr (inr (inr (inr (inr (inr (inl (e, q)))))))) = (rw e q, rw q refl, omega arith)
-listed_rule code rule (inr (inr (inr (inr (inr (inr (inr z))))))) = absurd z
+-- what the table says of a code and its rule: a 16-bit code, at most 30 payload words, and a selection by one of the first two that is
+-- among the fewest
+pub record Tabled (code : ℕ) (rule : Rule) : Type 0 where
+  pub is : lookup code rules ≡ Some rule
+  pub small : code < 65536
+  pub most : rule.most ≤ 30
+  pub by : IfSome rule.selection (λ s. (s.index < 2) × (s.index < rule.least))
 
--- a code in no row is unknown
-pub absent_unknown : (code : ℕ) (rows : List (ℕ × Rule)) → Absent code rows → lookup code rows ≡ unlisted
+-- every row does
+table : (code : ℕ) (rule : Rule) → Listed code rule rules → Tabled code rule
+unfolding Listed
+table code rule (inl (e, q)) = rw (e, q) (record { is = refl; small = omega arith; most = omega arith; by = tt })
+table code rule (inr (inl (e, q))) =
+    rw (e, q) (record { is = refl; small = omega arith; most = omega arith; by = (omega arith, omega arith) })
+table code rule (inr (inr (inl (e, q)))) =
+    rw (e, q) (record { is = refl; small = omega arith; most = omega arith; by = (omega arith, omega arith) })
+table code rule (inr (inr (inr (inl (e, q))))) = rw (e, q) (record { is = refl; small = omega arith; most = omega arith; by = tt })
+table code rule (inr (inr (inr (inr (inl (e, q)))))) = rw (e, q) (record { is = refl; small = omega arith; most = omega arith; by = tt })
+table code rule (inr (inr (inr (inr (inr (inl (e, q))))))) =
+    rw (e, q) (record { is = refl; small = omega arith; most = omega arith; by = tt })
+table code rule (inr (inr (inr (inr (inr (inr (inl (e, q)))))))) =
+    rw (e, q) (record { is = refl; small = omega arith; most = omega arith; by = (omega arith, omega arith) })
+table code rule (inr (inr (inr (inr (inr (inr (inr z))))))) = absurd z
+
+-- a row of the table is the rule of its code
+pub listed_rule : (code : ℕ) (rule : Rule) → Listed code rule rules → rule_of code ≡ Some rule
+unfolding rule_of
+listed_rule code rule l = (table code rule l).is
+
+-- the table has every code's rule
+pub tabled : (code : ℕ) (rule : Rule) → rule_of code ≡ Some rule → Tabled code rule
+unfolding rule_of
+tabled code rule e = table code rule (known_listed code rule rules e)
+
+-- a selection is by one of the first two payload words
+pub index_small : (code : ℕ) (rule : Rule) → rule_of code ≡ Some rule → (s : Selection) → rule.selection ≡ Some s → s.index < 2
+index_small code rule e s f = let h = (tabled code rule e).by in (rw f at h).0
+
+-- a selection is among the fewest words of its code
+pub index_counted : (code : ℕ) (rule : Rule) → rule_of code ≡ Some rule → (s : Selection) → rule.selection ≡ Some s → s.index < rule.least
+index_counted code rule e s f = let h = (tabled code rule e).by in (rw f at h).1
+
+-- a code in no row has no rule
+pub absent_unknown : (code : ℕ) (rows : List (ℕ × Rule)) → Absent code rows → lookup code rows ≡ None
 unfolding Absent
 absent_unknown code [] h = refl
 absent_unknown code (row ∷ rows) (h, hs) = rw (ne_eqb code row.0 h) (absent_unknown code rows hs)
 
--- an unknown code is in no row
-pub unknown_absent : (code : ℕ) (rows : List (ℕ × Rule)) → Every (λ c r. r.known ≡ true) rows → (lookup code rows).known ≡ false
-    → Absent code rows
-unfolding Absent Every
-unknown_absent code [] k h = tt
-unknown_absent code (row ∷ rows) (k, ks) h = go (eqb code row.0) refl h (λ u. unknown_absent code rows ks u)
+-- a code without a rule is in no row
+pub unknown_absent : (code : ℕ) (rows : List (ℕ × Rule)) → lookup code rows ≡ None → Absent code rows
+unfolding Absent
+unknown_absent code [] h = tt
+unknown_absent code (row ∷ rows) h = go (eqb code row.0) refl h (λ u. unknown_absent code rows u)
   where
-    go : (t : Bool) → eqb code row.0 ≡ t → (cond t row.1 (lookup code rows)).known ≡ false
-        → ((lookup code rows).known ≡ false → Absent code rows) → (code ≡ row.0 → ⊥) × Absent code rows
-    go true e u more = both_ways row.1.known k u
+    go : (t : Bool) → eqb code row.0 ≡ t → cond t (Some row.1) (lookup code rows) ≡ None
+        → (lookup code rows ≡ None → Absent code rows) → (code ≡ row.0 → ⊥) × Absent code rows
+    go true e u more = cc
     go false e u more = (eqb-false code row.0 e, more u)
-
--- every row is known
-pub all_known : Every (λ c r. r.known ≡ true) rules
-unfolding Every
-all_known = (refl, (refl, (refl, (refl, (refl, (refl, (refl, tt)))))))
-
--- a known code fits its 16 bits
-pub known_small : (code : ℕ) → (rule_of code).known ≡ true → code < 65536
-unfolding rule_of
-known_small code h = (listed_rule code (rule_of code) (known_listed code rules h)).2
 
 -- -- The cases of a command's legality
 
--- the word that a rule selects by
-abbrev pub selected : Rule → List ℕ → ℕ
-selected rule words = get_or words rule.index 0
+module _ (count : ℕ) (words : List ℕ) where
+  -- what a verdict says of a rule
+  pub data Verdict : Option Rule → Result ⊤ Refusal → Type 0 where
+    unknown : Verdict None (Err UnknownCode)
+    few : (rule : Rule) → count < rule.least → Verdict (Some rule) (Err WrongCount)
+    many : (rule : Rule) → rule.most < count → Verdict (Some rule) (Err WrongCount)
+    out : (rule : Rule) (s : Selection) → rule.least ≤ count → count ≤ rule.most → rule.selection ≡ Some s → s.top < selected s words
+        → Verdict (Some rule) (Err WrongSelection)
+    fine : (rule : Rule) → rule.least ≤ count → count ≤ rule.most
+        → ((s : Selection) → rule.selection ≡ Some s → selected s words ≤ s.top)
+        → Verdict (Some rule) (Ok tt)
 
-module _ (rule : Rule) (count : ℕ) (words : List ℕ) where
-  -- what a verdict says
-  pub data Verdict : ℕ → Type 0 where
-    unknown : rule.known ≡ false → Verdict 44
-    few : rule.known ≡ true → count < rule.least → Verdict 45
-    many : rule.known ≡ true → rule.most < count → Verdict 45
-    out : rule.known ≡ true → rule.least ≤ count → count ≤ rule.most → rule.selects ≡ true → rule.top < selected rule words
-        → Verdict 46
-    fine : rule.known ≡ true → rule.least ≤ count → count ≤ rule.most → (rule.selects ≡ true → selected rule words ≤ rule.top)
-        → Verdict 0
-
-  -- 44: an unknown code
-  pub judged_unknown : rule.known ≡ false → ◌≡◌ {A = ℕ} 44 (judged rule count words)
-  judged_unknown k = rw k
-
-  -- 45: fewer words than the rule has
-  pub judged_few : rule.known ≡ true → count < rule.least → ◌≡◌ {A = ℕ} 45 (judged rule count words)
-  judged_few k l = rw (k, lt-leb rule.least count l)
-
-  -- 45: more words than the rule has
-  pub judged_many : rule.known ≡ true → rule.most < count → ◌≡◌ {A = ℕ} 45 (judged rule count words)
-  judged_many k m = go (dec_le rule.least count)
+  -- every rule has one
+  pub verdict : (rule : Option Rule) → Verdict rule (judged rule count words)
+  verdict None = unknown
+  verdict (Some rule) = counted (dec_le rule.least count) (dec_le count rule.most)
     where
-      go : Dec (rule.least ≤ count) → ◌≡◌ {A = ℕ} 45 (judged rule count words)
-      go (yes l) = rw (k, le-leb rule.least count l, lt-leb count rule.most m)
-      go (no l) = rw (k, lt-leb rule.least count (omega arith))
+      picked : rule.least ≤ count → count ≤ rule.most → (s : Selection) → rule.selection ≡ Some s → Dec (selected s words ≤ s.top)
+          → Verdict (Some rule) (chosen (Some s) words)
+      picked l m s e (yes o) =
+          rw (le-ltb s.top (selected s words) o)
+          (fine rule l m (λ t f. let same : s ≡ t = cc in rw (← same) o))
+      picked l m s e (no o) = rw (lt-ltb s.top (selected s words) (omega arith)) (out rule s l m e (omega arith))
 
-  -- 0: the count fits and there is no selection
-  pub judged_free : rule.known ≡ true → rule.least ≤ count → count ≤ rule.most → rule.selects ≡ false
-      → ◌≡◌ {A = ℕ} 0 (judged rule count words)
-  judged_free k l m s = rw (k, le-leb rule.least count l, le-leb count rule.most m, s)
+      any : rule.least ≤ count → count ≤ rule.most → (o : Option Selection) → rule.selection ≡ o
+          → Verdict (Some rule) (chosen o words)
+      any l m None e = fine rule l m (λ s f. cc)
+      any l m (Some s) e = picked l m s e (dec_le (selected s words) s.top)
 
-  -- 46: the selection is above its highest value
-  pub judged_out : rule.known ≡ true → rule.least ≤ count → count ≤ rule.most → rule.selects ≡ true → rule.top < selected rule words
-      → ◌≡◌ {A = ℕ} 46 (judged rule count words)
-  judged_out k l m s o = rw (k, le-leb rule.least count l, le-leb count rule.most m, s, lt-ltb rule.top (selected rule words) o)
-
-  -- 0: count and selection fit
-  pub judged_in : rule.known ≡ true → rule.least ≤ count → count ≤ rule.most → rule.selects ≡ true → selected rule words ≤ rule.top
-      → ◌≡◌ {A = ℕ} 0 (judged rule count words)
-  judged_in k l m s o = rw (k, le-leb rule.least count l, le-leb count rule.most m, s, le-ltb rule.top (selected rule words) o)
-
-  -- every command has one
-  pub verdict : Verdict (judged rule count words)
-  verdict = known rule.known refl
-    where
-      chosen_word : rule.known ≡ true → rule.least ≤ count → count ≤ rule.most → rule.selects ≡ true
-          → Dec (selected rule words ≤ rule.top) → Verdict (judged rule count words)
-      chosen_word k l m s (yes o) = subst Verdict (judged_in k l m s o) (fine k l m (λ t. o))
-      chosen_word k l m s (no o) = subst Verdict (judged_out k l m s (omega arith)) (out k l m s (omega arith))
-
-      counted : rule.known ≡ true → Dec (rule.least ≤ count) → Dec (count ≤ rule.most) → Verdict (judged rule count words)
-      counted k (no l) m = subst Verdict (judged_few k (omega arith)) (few k (omega arith))
-      counted k (yes l) (no m) = subst Verdict (judged_many k (omega arith)) (many k (omega arith))
-      counted k (yes l) (yes m) =
-          test rule.selects
-          (λ s. chosen_word k l m s (dec_le (selected rule words) rule.top))
-          (λ s. subst Verdict (judged_free k l m s) (fine k l m (λ t. both_ways rule.selects t s)))
-
-      known : (t : Bool) → rule.known ≡ t → Verdict (judged rule count words)
-      known false k = subst Verdict (judged_unknown k) (unknown k)
-      known true k = counted k (dec_le rule.least count) (dec_le count rule.most)
-
--- the refusal by the rule that the code has at hand
-pub by_rule : (code count : ℕ) (words : List ℕ) (rule : Rule) (n : ℕ) → rule ≡ rule_of code → n ≡ judged rule count words
-    → n ≡ legality code count words
-unfolding legality
-by_rule code count words rule n e h = h ∙ rw e
+      counted : Dec (rule.least ≤ count) → Dec (count ≤ rule.most) → Verdict (Some rule) (judged (Some rule) count words)
+      counted (no l) m = rw (lt-leb rule.least count (omega arith)) (few rule (omega arith))
+      counted (yes l) (no m) = rw (le-leb rule.least count l, lt-leb count rule.most (omega arith)) (many rule (omega arith))
+      counted (yes l) (yes m) = rw (le-leb rule.least count l, le-leb count rule.most m) (any l m rule.selection refl)
 
 -- -- A legal command
 
 -- what a command that is not refused is
 pub record Legal (code count : ℕ) (words : List ℕ) : Type 0 where
-  pub known : (rule_of code).known ≡ true
+  pub rule : Rule
+  pub known : rule_of code ≡ Some rule
   pub small : code < 65536
-  pub least : (rule_of code).least ≤ count
-  pub most : count ≤ (rule_of code).most
+  pub least : rule.least ≤ count
+  pub most : count ≤ rule.most
   pub few : count ≤ 30
-  pub chosen : (rule_of code).selects ≡ true → selected (rule_of code) words ≤ (rule_of code).top
+  pub chosen : (s : Selection) → rule.selection ≡ Some s → selected s words ≤ s.top
 
 -- a command that is not refused is legal
 pub is_legal : (code count : ℕ) (words : List ℕ) → legality code count words ≡ 0 → Legal code count words
-unfolding legality
-is_legal code count words h = go (verdict (rule_of code) count words) h
+unfolding checked
+is_legal code count words h = go (verdict count words (rule_of code)) refl h
   where
-    go : {n : ℕ} → Verdict (rule_of code) count words n → n ≡ 0 → Legal code count words
-    go (unknown k) e = absurd (omega arith)
-    go (few k l) e = absurd (omega arith)
-    go (many k l) e = absurd (omega arith)
-    go (out k l m s o) e = absurd (omega arith)
-    go (fine k l m s) e =
-        let b = most_small code in
-        record { known = k; small = known_small code k; least = l; most = m; few = omega arith; chosen = s }
+    go : {v : Result ⊤ Refusal} {o : Option Rule} → Verdict count words o v → rule_of code ≡ o → refusal_number v ≡ 0
+        → Legal code count words
+    go unknown k e = absurd (omega arith)
+    go (few rule l) k e = absurd (omega arith)
+    go (many rule l) k e = absurd (omega arith)
+    go (out rule s l m q o) k e = absurd (omega arith)
+    go (fine rule l m s) k e =
+        let b = (tabled code rule k).most in
+        record { rule = rule; known = k; small = (tabled code rule k).small; least = l; most = m; few = omega arith; chosen = s }
 
 -- a legal command is not refused
-pub legal_is : (code count : ℕ) (words : List ℕ) → Legal code count words → legality code count words ≡ 0
-unfolding legality
-legal_is code count words l =
-    test (rule_of code).selects
-    (λ s. sym (judged_in (rule_of code) count words l.known l.least l.most s (l.chosen s)))
-    (λ s. sym (judged_free (rule_of code) count words l.known l.least l.most s))
+pub legal_is : (code count : ℕ) (words : List ℕ) → Legal code count words → checked code count words ≡ Ok tt
+unfolding checked
+legal_is code count words l = rw (l.known, le-leb l.rule.least count l.least, le-leb count l.rule.most l.most) (any l.rule.selection refl)
+  where
+    any : (o : Option Selection) → l.rule.selection ≡ o → chosen o words ≡ Ok tt
+    any None e = refl
+    any (Some s) e = rw (le-ltb s.top (selected s words) (l.chosen s e))
+
+-- a command without a refusal number has no refusal
+pub legal_checked : (code count : ℕ) (words : List ℕ) → legality code count words ≡ 0 → checked code count words ≡ Ok tt
+legal_checked code count words h = legal_is code count words (is_legal code count words h)
+
+-- a command that was checked and not refused is legal
+pub legal_at : {code count : ℕ} {words : List ℕ} {v : Result ⊤ Refusal} {u : ⊤} → v ≡ checked code count words → v ≡ Ok u
+    → Legal code count words
+legal_at {code} {count} {words} e o = is_legal code count words (ap refusal_number (sym e ∙ o))
 
 -- words behind the count do not matter
 pub legal_take : (code count : ℕ) (words : List ℕ) → legality code count words ≡ 0 → legality code count (take count words) ≡ 0
 legal_take code count words h =
     let l = is_legal code count words h in
-    legal_is code count (take count words)
+    ap refusal_number
+    (legal_is code count (take count words)
     (record {
+      rule = l.rule;
       known = l.known;
       small = l.small;
       least = l.least;
       most = l.most;
       few = l.few;
-      chosen = λ s.
-          let p = index_counted code s in
+      chosen = λ s e.
+          let p = index_counted code l.rule l.known s e in
           let q = l.least in
-          rw (get_or-take count words (rule_of code).index 0 (omega arith)) (l.chosen s);
-    })
+          rw (get_or-take count words s.index 0 (omega arith)) (l.chosen s e);
+    }))

@@ -1,11 +1,8 @@
 -- Words and their bytes: both directions, and the thirty words by value.
-use mathlib.Core.Path.{◌≡◌, refl, ap, ◌∙◌}
-use mathlib.Core.List.{List, [], ◌∷◌, ◌++◌}
-use Prim.Native.Nat.{ℕ, zero, suc, ◌+◌, ◌-◌, ◌*◌, ◌^◌, ◌≤◌}
-use native.Mathlib.Nat.{suc-sub-suc, sub-zero, zero-sub, zero-add}
-use native.Mathlib.Omega.{arith}
-use lib.ListN.{length, take, drop, get_or, replicate, length-append}
-use lib.Seq.{sets, sets-eq, drop-drop, take_at}
+use Rattle.std.proofs.Common.{◌≡◌, refl, ap, ◌∙◌, List, [], ◌∷◌, ◌++◌, ℕ, zero, suc, ◌+◌, ◌-◌, ◌*◌, ◌^◌, ◌≤◌, zero-add, arith, length, take}
+use Rattle.std.proofs.Common.{drop, get_or, replicate, length-append, drop-drop, take_at}
+use native.Mathlib.Nat.{suc-sub-suc, sub-zero, zero-sub}
+use lib.Seq.{sets, sets-eq}
 use Rattle.digits.specs.Bytes.{Below, Bytes}
 use Rattle.digits.specs.LittleEndian.{to_little, word_at}
 use Rattle.digits.proofs.LittleEndianLaws.{from_to_little, to_from_little, length_little, word_there}

@@ -1,8 +1,12 @@
 -- What bytes say as a command, or their refusal (paper 01, "DemoRad" and "Refusal numbers").
 use Rattle.std.specs.Prelude.{Bool, false, cond, not, List, [], ◌∷◌, ◌++◌, ℕ, zero, suc, ◌-◌, ◌*◌, ◌/◌, ◌%◌, ◌^◌, eqb, ltb, length}
-use Rattle.std.specs.Prelude.{take, drop, replicate}
+use Rattle.std.specs.Prelude.{take, drop, replicate, Result, Ok, Err, ⊤}
+use Rattle.std.specs.Result.{result_and}
+use Rattle.refusals.specs.Numbers.{refusal_number}
+use Rattle.refusals.specs.declared.Refusal.{Refusal}
+use Rattle.refusals.specs.declared.Refusal.TheVariants.{CommandTooShort, RestBitSet, LengthZero, WrongSize}
 use Rattle.digits.specs.LittleEndian.{from_little, word_at}
-use Rattle.demorad.specs.Rules.{max_payload, legality}
+use Rattle.demorad.specs.Rules.{max_payload, checked, legality}
 use Rattle.demorad.specs.declared.Command.{Command}
 
 -- -- The header's fields (document 001, tables 2 to 5)
@@ -52,29 +56,48 @@ padded words = words ++ replicate (max_payload - length words) 0
 
 -- -- Reading
 
--- the refusal of bytes before code and payload are looked at; 0 for none (paper 01, "Refusal numbers": 40 to 43 rising)
-unfoldable pub framing : List ℕ → ℕ
-framing bs =
-    cond (ltb (length bs) 4) 40
-    (cond (not (eqb (rest_of (header_of bs)) 0)) 41
-    (cond (eqb (length_of (header_of bs)) 0) 42
-    (cond (not (eqb (length bs) (4 * length_of (header_of bs)))) 43 0)))
+-- whether bytes are framed as a command (paper 01, "Refusal numbers": 40 to 43 rising)
+unfoldable pub framed : List ℕ → Result ⊤ Refusal
+framed bs =
+    cond (ltb (length bs) 4) (Err CommandTooShort)
+    (cond (not (eqb (rest_of (header_of bs)) 0)) (Err RestBitSet)
+    (cond (eqb (length_of (header_of bs)) 0) (Err LengthZero)
+    (cond (not (eqb (length bs) (4 * length_of (header_of bs)))) (Err WrongSize) (Ok tt))))
+
+-- the refusal of bytes before code and payload are looked at; 0 for none
+abbrev pub framing : List ℕ → ℕ
+framing bs = refusal_number (framed bs)
 
 -- the refusal of bytes; 0 for none
 unfoldable pub read_refusal : List ℕ → ℕ
 read_refusal bs = cond (eqb (framing bs) 0) (legality (code_of (header_of bs)) (count_of bs) (payload_of bs)) (framing bs)
 
--- a refusal: its number, every other number 0 (paper 01, "Refusal numbers")
-abbrev pub refused_command : ℕ → Command
-refused_command refusal = record { refusal = refusal; rd = false; code = 0; count = 0; words = replicate max_payload 0 }
-
--- a command that is not refused
+-- a command of these values
 abbrev pub command : Bool → ℕ → ℕ → List ℕ → Command
-command rd code count words = record { refusal = 0; rd = rd; code = code; count = count; words = words }
+command rd code count words = record { rd = rd; code = code; count = count; words = words }
 
--- what reading the bytes answers: RD, code, payload count and thirty words (paper 01, "DemoRad")
-unfoldable pub read_command : List ℕ → Command
+-- what reading the bytes answers: RD, code, payload count and thirty words (paper 01, "DemoRad"), or the first refusal
+unfoldable pub read_command : List ℕ → Result Command Refusal
 read_command bs =
-    cond (eqb (read_refusal bs) 0)
-    (command (rd_of (header_of bs)) (code_of (header_of bs)) (count_of bs) (padded (payload_of bs)))
-    (refused_command (read_refusal bs))
+    result_and (framed bs)
+    (result_and (checked (code_of (header_of bs)) (count_of bs) (payload_of bs))
+    (Ok (command (rd_of (header_of bs)) (code_of (header_of bs)) (count_of bs) (padded (payload_of bs)))))
+
+-- -- The numbers of an answer
+
+-- every number 0
+abbrev pub no_command : Command
+no_command = command false 0 0 (replicate max_payload 0)
+
+-- the values beside an answer's refusal number
+abbrev pub values_of : Result Command Refusal → Command
+values_of (Ok c) = c
+values_of (Err r) = no_command
+
+-- an answer as its refusal number and its values
+abbrev pub answer_numbers : Result Command Refusal → ℕ × Command
+answer_numbers answer = (refusal_number answer, values_of answer)
+
+-- a refusal: its number, every other number 0 (paper 01, "Refusal numbers")
+abbrev pub refused_command : ℕ → ℕ × Command
+refused_command refusal = (refusal, no_command)

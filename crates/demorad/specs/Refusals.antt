@@ -1,9 +1,10 @@
 -- The refusals once more, as conditions in paper 01's words, and what "the first whose condition holds" says.
-use Rattle.std.specs.Prelude.{◌≡◌, Bool, true, List, [], ◌∷◌, ◌⊎◌, ℕ, ◌*◌, ◌<◌, ◌≤◌, length, get_or}
+use Rattle.std.specs.Prelude.{◌≡◌, Bool, List, [], ◌∷◌, ◌⊎◌, ℕ, ◌*◌, ◌<◌, ◌≤◌, length, get_or, Some}
 use Rattle.demorad.specs.Rules.{max_payload, rules}
 use Rattle.demorad.specs.Image.{command_bytes}
 use Rattle.demorad.specs.Reading.{bits, header_of, length_of, code_of, count_of, payload_of}
 use Rattle.demorad.specs.declared.Rule.{Rule}
+use Rattle.demorad.specs.declared.Selection.{Selection}
 
 -- the code is in no row of the table
 unfoldable pub Absent : ℕ → List (ℕ × Rule) → Type 0
@@ -25,7 +26,8 @@ pub data Illegal (code count : ℕ) (words : List ℕ) : ℕ → Type 0 where
   -- payload count over 30
   over_thirty : max_payload < count → Illegal code count words 45
   -- selection out of range
-  wrong_selection : (rule : Rule) → Listed code rule rules → rule.selects ≡ true → rule.top < get_or words rule.index 0
+  wrong_selection : (rule : Rule) (selection : Selection) → Listed code rule rules → rule.selection ≡ Some selection
+      → selection.top < get_or words selection.index 0
       → Illegal code count words 46
 
 -- when bytes are no command, with the number (paper 01, "Refusal numbers")

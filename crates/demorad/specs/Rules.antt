@@ -1,7 +1,11 @@
 -- The command codes with their rules, and the legality of a command (document 001, section 5; paper 01, "DemoRad").
-use Rattle.std.specs.Prelude.{true, false, cond, not, ◌&&◌, List, [], ◌∷◌, ℕ, eqb, ltb, get_or}
+use Rattle.std.specs.Prelude.{cond, List, [], ◌∷◌, ℕ, eqb, ltb, get_or, Option, Some, None, Result, Ok, Err, ⊤}
+use Rattle.refusals.specs.Numbers.{refusal_number}
+use Rattle.refusals.specs.declared.Refusal.{Refusal}
+use Rattle.refusals.specs.declared.Refusal.TheVariants.{UnknownCode, WrongCount, WrongSelection}
 use Rattle.digits.specs.Bytes.{within}
 use Rattle.demorad.specs.declared.Rule.{Rule}
+use Rattle.demorad.specs.declared.Selection.{Selection}
 
 -- -- The codes (document 001, table 6)
 
@@ -41,15 +45,11 @@ max_payload = 30
 
 -- from least to most payload words of any value
 abbrev pub counts : ℕ → ℕ → Rule
-counts least most = record { known = true; least = least; most = most; selects = false; index = 0; top = 0 }
+counts least most = record { least = least; most = most; selection = None }
 
 -- from least to most payload words, of which word index, counted from 0, is a selection from 0 to top
 abbrev pub selects : ℕ → ℕ → ℕ → ℕ → Rule
-selects least most index top = record { known = true; least = least; most = most; selects = true; index = index; top = top }
-
--- a code that document 001 does not list
-abbrev pub unlisted : Rule
-unlisted = record { known = false; least = 0; most = max_payload; selects = false; index = 0; top = 0 }
+selects least most index top = record { least = least; most = most; selection = Some (record { index = index; top = top }) }
 
 -- the rules (paper 01, "DemoRad"; document 001, tables 7 to 16)
 abbrev pub rules : List (ℕ × Rule)
@@ -63,24 +63,35 @@ rules =
     ∷ (dsp_set_spi, selects 2 max_payload 1 3)
     ∷ []
 
--- the rule that the table has for a code
-abbrev pub lookup : ℕ → List (ℕ × Rule) → Rule
-lookup code [] = unlisted
-lookup code (row ∷ rows) = cond (eqb code row.0) row.1 (lookup code rows)
+-- the rule that the table has for a code; none for a code that document 001 does not list
+abbrev pub lookup : ℕ → List (ℕ × Rule) → Option Rule
+lookup code [] = None
+lookup code (row ∷ rows) = cond (eqb code row.0) (Some row.1) (lookup code rows)
 
 -- the rule of a code
-unfoldable pub rule_of : ℕ → Rule
+unfoldable pub rule_of : ℕ → Option Rule
 rule_of code = lookup code rules
 
 -- -- Legality
 
--- the refusal of a command under a rule; 0 for none (paper 01, "Refusal numbers": 44, 45, 46 in this order)
-abbrev pub judged : Rule → ℕ → List ℕ → ℕ
-judged rule count words =
-    cond (not rule.known) 44
-    (cond (not (within rule.least rule.most count)) 45
-    (cond (rule.selects && ltb rule.top (get_or words rule.index 0)) 46 0))
+-- the word that selects
+abbrev pub selected : Selection → List ℕ → ℕ
+selected selection words = get_or words selection.index 0
+
+-- what a rule's selection says of the words (paper 01, "Refusal numbers": 46)
+abbrev pub chosen : Option Selection → List ℕ → Result ⊤ Refusal
+chosen None words = Ok tt
+chosen (Some selection) words = cond (ltb selection.top (selected selection words)) (Err WrongSelection) (Ok tt)
+
+-- what a code's rule says of a command (paper 01, "Refusal numbers": 44, 45, 46 in this order)
+abbrev pub judged : Option Rule → ℕ → List ℕ → Result ⊤ Refusal
+judged None count words = Err UnknownCode
+judged (Some rule) count words = cond (within rule.least rule.most count) (chosen rule.selection words) (Err WrongCount)
+
+-- what a command is answered by its code, payload count and words
+unfoldable pub checked : ℕ → ℕ → List ℕ → Result ⊤ Refusal
+checked code count words = judged (rule_of code) count words
 
 -- the refusal of a command by its code, payload count and words; 0 for none
-unfoldable pub legality : ℕ → ℕ → List ℕ → ℕ
-legality code count words = judged (rule_of code) count words
+abbrev pub legality : ℕ → ℕ → List ℕ → ℕ
+legality code count words = refusal_number (checked code count words)

@@ -3,14 +3,13 @@
 #![tactic(auto)]
 
 ghost use Rattle.std.specs.Prelude.{◌≡◌};
-ghost use Rattle.digits.specs.Stores.{Writes};
+ghost use Rattle.digits.specs.Stores.{Writes, written_of};
 ghost use Rattle.demorad.specs.Reading.{read_command};
-ghost use Rattle.fields_command.specs.Numbers.{rd_number, command_numbers, numbers_refusal, numbers_bytes};
+ghost use Rattle.fields_command.specs.Numbers.{command_numbers, numbers_refusal, numbers_bytes};
 
+use demorad::Command;
 use digits::Written;
-
-// Refused: a value without an encoding (paper 01, "Refusal numbers").
-const NO_ENCODING: u32 = 50;
+use refusals::Refusal;
 
 // A command: the refusal number (0: none), RD as 0 or 1, the code, the payload count and thirty words.
 // A host may hand over any number as RD, so it is no `bool` here.
@@ -24,14 +23,30 @@ pub struct CommandNumbers {
     pub words: [u32; 30],
 }
 
-// RD as a number.
-fn rd_number(rd: bool) -> u32
-    ensures { result ≡ rd_number rd }
-{
-    if rd {
-        return 1;
+impl From<Result<Command, Refusal>> for CommandNumbers {
+    ghost from_gives = { λ answer numbers. numbers ≡ command_numbers answer };
+
+    fn from(answer: Result<Command, Refusal>) -> CommandNumbers {
+        match answer {
+            Ok(command) => {
+                let words = command.words;
+                CommandNumbers {
+                    refusal: 0,
+                    rd: u32::from(command.rd),
+                    code: command.code,
+                    count: command.count,
+                    words,
+                }
+            }
+            Err(refusal) => CommandNumbers {
+                refusal: refusal.number(),
+                rd: 0,
+                code: 0,
+                count: 0,
+                words: [0; 30],
+            },
+        }
     }
-    0
 }
 
 // The command that exactly these bytes are; 40 to 46, rising.
@@ -39,16 +54,20 @@ fn rd_number(rd: bool) -> u32
 pub extern "C" fn vq_read_command(bytes: &[u8]) -> CommandNumbers
     ensures { result ≡ command_numbers (read_command bytes.now) }
 {
-    let command = demorad_read::read_command(bytes);
-    let words = command.words;
-    let rd = rd_number(command.rd);
-    CommandNumbers {
-        refusal: command.refusal,
-        rd,
-        code: command.code,
-        count: command.count,
-        words,
+    CommandNumbers::from(demorad_read::read_command(bytes))
+}
+
+// Writes a command's numbers; an RD over 1 is refused behind the code, the count and the selection.
+#[tactic(auto, unfolding(crate::specs::Numbers::numbers_refusal, crate::specs::Numbers::numbers_bytes))]
+fn write_numbers(out: &mut [u8], command: CommandNumbers) -> Result<usize, Refusal>
+    ensures { Writes (numbers_refusal command) (numbers_bytes command) out.old (written_of result) out.new }
+{
+    if 1 < command.rd {
+        demorad::command_refusal(command.code, command.count, command.words)?;
+        return Err(Refusal::NoEncoding);
     }
+    let rd = command.rd == 1;
+    demorad_write::write_command(out, rd, command.code, command.count, command.words)
 }
 
 // Writes a command with RD, code, count and words of `command`, whose refusal counts for nothing; 44, 45, 46, 50 (an RD over 1), 51.
@@ -56,19 +75,5 @@ pub extern "C" fn vq_read_command(bytes: &[u8]) -> CommandNumbers
 pub extern "C" fn vq_write_command(out: &mut [u8], command: CommandNumbers) -> Written
     ensures { Writes (numbers_refusal command) (numbers_bytes command) out.old result out.new }
 {
-    let words = command.words;
-    if 1 < command.rd {
-        let illegal = demorad::command_refusal(command.code, command.count, words);
-        if illegal != 0 {
-            return Written {
-                refusal: illegal,
-                size: 0,
-            };
-        }
-        return Written {
-            refusal: NO_ENCODING,
-            size: 0,
-        };
-    }
-    demorad_write::write_command(out, command.rd == 1, command.code, command.count, words)
+    Written::from(write_numbers(out, command))
 }
