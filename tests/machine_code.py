@@ -104,19 +104,27 @@ FORBIDDEN = {r"/": "a division", r"%": "a remainder", r"\b(while|loop|for)\b": "
 KEYWORDS = {"if", "match", "return", "in", "as"}
 
 
-def parsed(text):
-    """The bodies of a source's functions, each followed by the constants that it names."""
-    text = re.sub(r"//.*|/\*.*?\*/", "", text)
-    for crate, name in re.findall(r"^use (\w+)::(\w+);", text, re.M):
-        text = re.sub(rf"(?<![\w:.]){name}\s*\(", f"{crate}::{name}(", text)
-    constants = dict(re.findall(r"^(?:pub )?const (\w+)[^=]*=(.*?);", text, re.M | re.S))
-    parts = re.split(r'^(?:pub )?(?:extern "C" )?fn (\w+)', text, flags=re.M)
+def functions(text, indent, owner, constants):
+    """The bodies of the functions that stand this far in, each followed by the constants that it names."""
+    parts = re.split(rf'^{indent}(?:pub )?(?:extern "C" )?fn (\w+)', text, flags=re.M)
     bodies = {}
     for name, rest in zip(parts[1::2], parts[2::2]):
-        body = re.search(r"^\{$(.*?)^\}$", rest, re.M | re.S)
+        body = re.search(rf"\{{$(.*?)^{indent}\}}$", rest, re.M | re.S)
         body = body[1] if body else rest
         named = [constants[word] for word in re.findall(r"\b[A-Z][A-Z0-9_]*\b", body) if word in constants]
-        bodies[name] = "\n".join([body, *named])
+        bodies[owner + name] = "\n".join([body, *named])
+    return bodies
+
+
+def parsed(text):
+    """The bodies of a source's functions, by their names, and of its types' methods, by type and name."""
+    text = re.sub(r"//.*|/\*.*?\*/", "", text)
+    for crate, name in re.findall(r"^use (\w+)::(\w+);", text, re.M):
+        text = re.sub(rf"(?<![\w:.]){name}(\s*\(|::)", rf"{crate}::{name}\1", text)
+    constants = dict(re.findall(r"^(?:pub )?const (\w+)[^=]*=(.*?);", text, re.M | re.S))
+    bodies = functions(text, "", "", constants)
+    for owner, block in re.findall(r"^impl [^{]*?(\w+) \{$(.*?)^\}$", text, re.M | re.S):
+        bodies.update(functions(block, "    ", owner + "::", constants))
     return bodies
 
 
@@ -137,14 +145,23 @@ def source_fault(crates, crate, name, seen, path=()):
         if called in KEYWORDS or called[0].isupper() or re.fullmatch(r"std::num::wrapping_(add|sub|mul)_\w+", owner + called):
             continue
         if owner == ".":
-            return f"a method in {here}"
-        told = source_fault(crates, owner.removesuffix("::") or crate, called, seen, (*path, here))
-        if told != "right":
-            return told
+            # Every method of this name, whatever its type; std's are not looked into.
+            found = [(c, f) for c, bodies in crates.items() for f in bodies if f.endswith(f"::{called}")]
+            if not found:
+                return f"a method in {here}"
+        else:
+            path_of = re.fullmatch(r"((?:[a-z]\w*::)?)((?:[A-Z]\w*::)?)", owner)
+            if not path_of:
+                return f"{owner}{called} in {here} is not found"
+            found = [(path_of[1].removesuffix("::") or crate, path_of[2] + called)]
+        for place in found:
+            told = source_fault(crates, *place, seen, (*path, here))
+            if told != "right":
+                return told
     return "right"
 
 
-RIGHT = {"f": "g(n) + h(n) // n / 11 % 2", "g": "if (n < 1) { return TWO; }\n n >> 8", "h": "Some(n)"}
+RIGHT = {"f": "g(n) + h(n) // n / 11 % 2", "g": "if (n < 1) { return TWO; }\n n >> 8", "h": "Some(n.halved())", "halved": "self >> 1"}
 WRONG = [
     ("a division in a::f", {"f": "n / 11"}),
     ("a division in b::h", {"h": "n / 11"}),
@@ -159,15 +176,19 @@ WRONG = [
     ("a::g calls itself", {"g": "b::h(n)", "h": "a::g(n)"}),
     ("b::k is not found", {"g": "b::k(n)"}),
     ("a method in b::h", {"h": "n.divided(11)"}),
+    ("a division in b::Number::halved", {"halved": "self / 2"}),
+    ("a loop in b::Number::halved", {"g": "b::Number::halved(n)", "halved": "loop { }"}),
+    ("b::Number::third is not found", {"g": "b::Number::third(n)"}),
 ]
 
 
 def wrong_sources():
     """How many small sources have a fault; each must be told."""
     for expected, changed in [("right", {}), *WRONG]:
-        f, g, h = [f"\npub fn {name}(n: u32) -> u32\n    ensures {{ n / 2 }}\n{{\n    {body}\n}}\n"
-                   for name, body in (RIGHT | changed).items()]
-        crates = {"a": parsed("use b::h;\nconst TWO: u32 = 2;\nconst HALF: u32 = TWO / 2;\n" + f + g), "b": parsed(h)}
+        *free, method = (RIGHT | changed).items()
+        f, g, h = [f"\npub fn {name}(n: u32) -> u32\n    ensures {{ n / 2 }}\n{{\n    {body}\n}}\n" for name, body in free]
+        halved = f"\nimpl Half for Number {{\n    fn {method[0]}(self) -> u32 {{\n        {method[1]}\n    }}\n}}\n"
+        crates = {"a": parsed("use b::h;\nconst TWO: u32 = 2;\nconst HALF: u32 = TWO / 2;\n" + f + g), "b": parsed(h + halved)}
         told = source_fault(crates, "a", "f", set())
         if told != expected:
             sys.exit(f"machine_code: a source with {changed} should be told as: {expected}; is told as: {told}")

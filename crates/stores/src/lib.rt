@@ -13,14 +13,7 @@ use refusals::Refusal;
 pub fn put_pair(out: &mut [u8], at: usize, a: u8, b: u8)
     ensures { out.new ≡ stored_within out.old at (a ∷ b ∷ []) }
 {
-    if out.len() < at {
-        return;
-    }
-    if out.len() - at < 2 {
-        return;
-    }
-    out[at] = a;
-    out[at + 1] = b;
+    put_bytes(out, at, &[a, b]);
 }
 
 // Lays one byte n times over the buffer at an offset; changes nothing where they do not fit.
@@ -28,16 +21,8 @@ pub fn put_pair(out: &mut [u8], at: usize, a: u8, b: u8)
 pub fn put_run(out: &mut [u8], at: usize, n: usize, b: u8)
     ensures { out.new ≡ stored_within out.old at (replicate n b) }
 {
-    if out.len() < at {
-        return;
-    }
-    if out.len() - at < n {
-        return;
-    }
-    let mut i: usize = 0;
-    while i < n {
-        out[at + i] = b;
-        i = i + 1;
+    if at <= out.len() && n <= out.len() - at {
+        out[at..at + n].fill(b);
     }
 }
 
@@ -46,16 +31,8 @@ pub fn put_run(out: &mut [u8], at: usize, n: usize, b: u8)
 pub fn put_bytes(out: &mut [u8], at: usize, bytes: &[u8])
     ensures { out.new ≡ stored_within out.old at bytes.now }
 {
-    if out.len() < at {
-        return;
-    }
-    if out.len() - at < bytes.len() {
-        return;
-    }
-    let mut i: usize = 0;
-    while i < bytes.len() {
-        out[at + i] = bytes[i];
-        i = i + 1;
+    if at <= out.len() && bytes.len() <= out.len() - at {
+        out[at..at + bytes.len()].copy_from_slice(bytes);
     }
 }
 

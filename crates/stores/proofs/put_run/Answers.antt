@@ -1,34 +1,23 @@
--- Storing the bytes left gives what storing all of them gave.
-use mathlib.Core.Path.{refl, sym, ◌∙◌}
-use native.Mathlib.Omega.{arith}
-use lib.ListN.{replicate, length-set}
-use Rattle.digits.proofs.StoreSteps.{store_start, run_next, run_end, run_fits, run_unfit}
+-- The part is the byte n times; without room nothing changes.
+use Rattle.std.proofs.Common.{ℕ, ap, replicate, sym, ◌∙◌, arith, length-take, length-drop}
+use Rattle.std.proofs.lemmas.List.{length-replicate}
+use Rattle.digits.proofs.StoreSteps.{run_unfit}
+use Rattle.stores.proofs.Parts.{part_stored}
+use Rattle.stores.proofs.put_run.Goals.{else-at-out-via-then-at-out+else-n-out, else-at-out-via-else-at-out}
 use Rattle.stores.proofs.put_run.Goals as goal
 
-pub returns-then-out-at : goal.returns-then-out-at
-returns-then-out-at c = let a = c.args in sym (run_unfit a.out.now a.at a.n a.b (omega arith))
-
-pub returns-then-out-at-2 : goal.returns-then-out-at-2
-returns-then-out-at-2 c = let a = c.args in sym (run_unfit a.out.now a.at a.n a.b (omega arith))
-
-pub loop-i-init : goal.loop-i-init
-loop-i-init c =
+pub returns-then-n-out : goal.returns-then-n-out
+returns-then-n-out c =
     let a = c.args in
-    (omega arith, refl, store_start a.out.now (replicate a.n a.b) a.at)
+    let size = length-replicate a.n a.b in
+    part_stored _ a.at (replicate a.n a.b) _ _
+    (c.fill.ensures.after (λ y e. e) ∙ ap (λ (k : ℕ). replicate k a.b) (simp (length-take, length-drop) (omega arith))) (omega arith) c.if-at-out.true (omega arith)
 
-pub loop-i-preserved : goal.loop-i-preserved
-loop-i-preserved c =
+pub returns-else-at-out : goal.returns-else-at-out
+returns-else-at-out c =
     let a = c.args in
-    let l = c.loop-i in
-    let next = run_next l.out a.at a.n a.b l.i c.loop-i-test.true in
-    (omega arith, simp length-set l.invariant.1, sym next ∙ l.invariant.2)
-
-pub shape_of-out : goal.shape_of-out
-shape_of-out c = c.loop-i.invariant.1
-
-pub returns : goal.returns
-returns c =
-    let a = c.args in
-    let l = c.loop-i in
-    let fits = run_fits a.out.now a.at a.n a.b (omega arith) in
-    sym (run_end l.out a.at a.n a.b l.i c.loop-i-test.false) ∙ l.invariant.2 ∙ sym fits
+    elim c.else-at-out.branch [
+      | else-at-out-via-then-at-out+else-n-out w ↦
+          let l = w.if-at-out.true in let s = w.if-n-out.false in sym (run_unfit a.out.now a.at a.n a.b (omega arith))
+      | else-at-out-via-else-at-out w ↦ let l = w.if-at-out.false in sym (run_unfit a.out.now a.at a.n a.b (omega arith))
+    ]
