@@ -3,7 +3,7 @@
 use mathlib.Core.Bool.{Bool, true, false, cond}
 use mathlib.Core.Path.{◌≡◌, refl, sym, ap, ◌∙◌}
 use mathlib.Core.List.{List, [], ◌∷◌}
-use Prim.Native.Nat.{ℕ, zero, suc, ◌+◌, ◌-◌, ◌*◌, ◌<◌, ◌≤◌}
+use Prim.Native.Nat.{ℕ, zero, suc, ◌+◌, ◌*◌, ◌<◌, ◌≤◌}
 use native.Mathlib.Omega.{arith}
 use native.Mathlib.Decide.{dec_lt, dec_le}
 use lib.Dec.{eqb}
@@ -393,10 +393,6 @@ all_left {from = from} {bs = bs} e = record { same = ap (λ (p : Form). judge_at
 -- what is left, as the form says it
 pub left_by : {q p p' : Form} {from at : ℕ} {bs : List ℕ} → p ≡ p' → Left q from p at bs → Left q from p' at bs
 left_by {at = at} {bs = bs} e l = record { same = l.same ∙ ap (λ (p : Form). judge_at p at bs) e }
-
--- before a loop over n pieces: all of them
-pub none_done : (pieces : ℕ → Form) (n : ℕ) → pieces n ≡ pieces (n - 0)
-none_done pieces n = let e : n ≡ n - 0 = omega arith in ap pieces e
 
 -- the next piece stands: the others are left
 pub left_ok : {q p : Form} (h : ℕ → Form) {from at v e : ℕ} {bs : List ℕ} → Left q from (p >>= h) at bs → Judges p at bs (Whole v e)

@@ -1,6 +1,6 @@
 -- The laws of the frames' parts: each row is judged as the parts that the code judges one after the other, and a frame by its start marker
 -- and identifier and then its body.
-use mathlib.Core.Bool.{true, false, cond, ◌&&◌, ◌||◌}
+use mathlib.Core.Bool.{Bool, true, false, cond, ◌&&◌, ◌||◌}
 use mathlib.Core.Path.{◌≡◌, refl, sym, ap, ◌∙◌}
 use mathlib.Core.List.{List, [], ◌∷◌}
 use Prim.Native.Nat.{ℕ, zero, suc, ◌+◌, ◌-◌, ◌<◌, ◌≤◌}
@@ -62,21 +62,21 @@ unfolding lay run ◌>>=◌
 behind_form = refl
 
 -- the four runs behind a target's number
-pub behind_seen : (p : ℕ) (s : List ℕ) → p + 14 ≤ length s
-    → (((list_all is_hex (slice_range s (p + 1) (p + 5)) && list_all is_character (slice_range s (p + 5) (p + 6)))
-    && list_all is_hex (slice_range s (p + 6) (p + 10))) && list_all is_character (slice_range s (p + 10) (p + 14))) ≡ true
-    → judge_at (lay behind_number 0) (p + 1) s ≡ Whole 0 (p + 14)
-behind_seen p s h t =
+pub behind_seen : (p : ℕ) (s : List ℕ) {a b c d : Bool} → p + 14 ≤ length s
+    → a ≡ list_all is_hex (slice_range s (p + 1) (p + 5)) → b ≡ list_all is_character (slice_range s (p + 5) (p + 6))
+    → c ≡ list_all is_hex (slice_range s (p + 6) (p + 10)) → d ≡ list_all is_character (slice_range s (p + 10) (p + 14))
+    → (a && b && c && d) ≡ true → judge_at (lay behind_number 0) (p + 1) s ≡ Whole 0 (p + 14)
+behind_seen p s h distance magnitude phase reserved t =
     let k = and_left _ _ t in
     let m = and_left _ _ k in
     ap (λ (q : Form). judge_at q (p + 1) s) behind_form
     ∙ go_on (run 4 Hex) (λ _. run 1 Char >>= (λ _. run 4 Hex >>= (λ _. run 4 Char))) (p + 1) s refl
-    (run_all 4 Hex (p + 1) (p + 5) s (omega arith) (omega arith) (and_left _ _ m))
+    (run_all 4 Hex (p + 1) (p + 5) s (omega arith) (omega arith) (sym distance ∙ and_left _ _ m))
     ∙ go_on (run 1 Char) (λ _. run 4 Hex >>= (λ _. run 4 Char)) (p + 5) s refl
-    (run_all 1 Char (p + 5) (p + 6) s (omega arith) (omega arith) (and_right _ _ m))
+    (run_all 1 Char (p + 5) (p + 6) s (omega arith) (omega arith) (sym magnitude ∙ and_right _ _ m))
     ∙ go_on (run 4 Hex) (λ _. run 4 Char) (p + 6) s refl
-    (run_all 4 Hex (p + 6) (p + 10) s (omega arith) (omega arith) (and_right _ _ k))
-    ∙ run_all 4 Char (p + 10) (p + 14) s (omega arith) (omega arith) (and_right _ _ t)
+    (run_all 4 Hex (p + 6) (p + 10) s (omega arith) (omega arith) (sym phase ∙ and_right _ _ k))
+    ∙ run_all 4 Char (p + 10) (p + 14) s (omega arith) (omega arith) (sym reserved ∙ and_right _ _ t)
 
 characters_form : (n kind : ℕ) → row (characters n) kind ≡ (run n Char >>= (λ _. row ending kind))
 unfolding row run characters ◌>>=◌

@@ -51,6 +51,7 @@ const STATUS_DIGITS: usize = 20;
 const FLAG_DIGITS: usize = 4;
 
 // What a hex digit stands for: `digits::digit_of` for a byte that is known to be one, with one test instead of four.
+// `0` is 48, and `A`, which is 65, stands for 10.
 fn digit_of(b: u32) -> u32
     requires { is_hex b ≡ true }
     ensures { result ≡ digit b }
@@ -156,7 +157,7 @@ fn kind_of(b: u8) -> Kind
 fn frame(bytes: &[u8]) -> Result<Parsed, Unparsed>
     ensures { Judges sirad 0 bytes.now (judgement_of result) }
 {
-    let Some(&first) = bytes.get(0) else {
+    let Some(&first) = bytes.first() else {
         return Err(Unparsed::Waiting);
     };
     if first != START_MARKER {

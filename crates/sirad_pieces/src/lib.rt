@@ -22,7 +22,7 @@ fn all_of<C: ByteClass>(bytes: &[u8]) -> bool
 {
     let mut all = true;
     for b in bytes {
-        all = all & C::is_of(*b);
+        all &= C::is_of(*b);
     }
     all
 }

@@ -1,11 +1,7 @@
 -- What is left of the run is judged as the whole run is.
-use Rattle.form.proofs.PieceLaws.{all_left, none_done, left_by, left_ok, left_err, left_none}
-use Rattle.sirad.specs.Sirad.{run}
+use Rattle.form.proofs.PieceLaws.{left_by, left_ok, left_err, left_none}
 use Rattle.sirad.proofs.Runs.{run_next, run_over}
 use Rattle.sirad_bytewise.proofs.span.Goals as goal
-
-pub loop-init : goal.loop-init
-loop-init g c = all_left (none_done (λ m. run m g.C.ByteClass.class) c.args.n)
 
 pub returns-in_err-at : goal.returns-in_err-at
 returns-in_err-at g c =

@@ -1,12 +1,7 @@
 -- What is left of the blocks is judged as all are.
-use Rattle.form.proofs.PieceLaws.{all_left, none_done, left_by, left_ok, left_err, left_is}
-use Rattle.sirad.specs.Rows.{blocks}
-use Rattle.sirad.specs.Sirad.{row}
+use Rattle.form.proofs.PieceLaws.{left_by, left_ok, left_err, left_is}
 use Rattle.sirad.proofs.FrameLaws.{blocks_next, blocks_over}
 use Rattle.sirad_judge.proofs.blocks_from.Goals as goal
-
-pub loop-init : goal.loop-init
-loop-init c = all_left (none_done (λ m. row (blocks m) 4) c.args.n)
 
 pub returns-in_err-at : goal.returns-in_err-at
 returns-in_err-at c =

@@ -24,17 +24,17 @@ framed {bs} {k} a t j = judges (j.answers ∙ sym (judge_body bs (omega (arith, 
 
 pub returns-in_default : goal.returns-in_default
 returns-in_default c =
-    let none = ltb-false 0 (length c.args.bytes.now) (sym c.in_default.ensures.lookup.0) in
+    let none = ltb-false 0 (length c.args.bytes.now) (sym c.in_default.ensures.item.0) in
     judges (judge_none _ (omega arith))
 
 pub returns-then-first-ne-START_MARKER : goal.returns-then-first-ne-START_MARKER
 returns-then-first-ne-START_MARKER c =
-    let there = c.in-Some.ensures.lookup.3 in
+    let there = c.in-Some.ensures.item.3 in
     judges (judge_no_start _ there.0 (λ e. c.if-first-ne-START_MARKER.true (there.1 0 ∙ e)))
 
 pub returns-in_default-get : goal.returns-in_default-get
 returns-in_default-get c =
-    let there = c.in-Some.ensures.lookup.3 in
+    let there = c.in-Some.ensures.item.3 in
     let one = ltb-false 1 (length c.args.bytes.now) (sym c.in_default-get.ensures.lookup.0) in
     judges (judge_start _ there.0 (sym (there.1 0) ∙ c.if-first-ne-START_MARKER.false) (omega arith))
 
@@ -42,33 +42,33 @@ pub returns-in-Sized : goal.returns-in-Sized
 unfolding body
 returns-in-Sized c =
     let second = c.in-Some-get.ensures.lookup.3 in
-    framed (announced (c.in-Some.ensures.lookup.3.1 0) c.if-first-ne-START_MARKER.false second.0 (second.1 0) c.kind_of.ensures
+    framed (announced (c.in-Some.ensures.item.3.1 0) c.if-first-ne-START_MARKER.false second.0 (second.1 0) c.kind_of.ensures
     c.in-Sized.is) refl c.data_frame.ensures
 
 pub returns-in-Targets : goal.returns-in-Targets
 unfolding body
 returns-in-Targets c =
     let second = c.in-Some-get.ensures.lookup.3 in
-    framed (announced (c.in-Some.ensures.lookup.3.1 0) c.if-first-ne-START_MARKER.false second.0 (second.1 0) c.kind_of.ensures
+    framed (announced (c.in-Some.ensures.item.3.1 0) c.if-first-ne-START_MARKER.false second.0 (second.1 0) c.kind_of.ensures
     c.in-Targets.is) refl c.target_list.ensures
 
 pub returns-in-Status : goal.returns-in-Status
 unfolding body
 returns-in-Status c =
     let second = c.in-Some-get.ensures.lookup.3 in
-    framed (announced (c.in-Some.ensures.lookup.3.1 0) c.if-first-ne-START_MARKER.false second.0 (second.1 0) c.kind_of.ensures
+    framed (announced (c.in-Some.ensures.item.3.1 0) c.if-first-ne-START_MARKER.false second.0 (second.1 0) c.kind_of.ensures
     c.in-Status.is) refl c.status_update.ensures
 
 pub returns-in-Flags : goal.returns-in-Flags
 unfolding body
 returns-in-Flags c =
     let second = c.in-Some-get.ensures.lookup.3 in
-    framed (announced (c.in-Some.ensures.lookup.3.1 0) c.if-first-ne-START_MARKER.false second.0 (second.1 0) c.kind_of.ensures
+    framed (announced (c.in-Some.ensures.item.3.1 0) c.if-first-ne-START_MARKER.false second.0 (second.1 0) c.kind_of.ensures
     c.in-Flags.is) refl c.error_flags.ensures
 
 pub returns-in-Unknown : goal.returns-in-Unknown
 returns-in-Unknown c =
     let second = c.in-Some-get.ensures.lookup.3 in
-    let a = announced (c.in-Some.ensures.lookup.3.1 0) c.if-first-ne-START_MARKER.false second.0 (second.1 0) c.kind_of.ensures
+    let a = announced (c.in-Some.ensures.item.3.1 0) c.if-first-ne-START_MARKER.false second.0 (second.1 0) c.kind_of.ensures
     c.in-Unknown.is in
     judges (judge_unknown c.args.bytes.now (omega (arith, a.there)) a.start a.kind)

@@ -1,14 +1,11 @@
 -- The digits left, with the number so far in front of them, are judged as all are; i digits give a number below 16 ^ i.
-use Rattle.std.proofs.Common.{lit<, ap, sym, ◌*◌, ◌+◌, ◌-◌, arith}
+use Rattle.std.proofs.Common.{ap, sym, ◌*◌, ◌+◌, ◌-◌, arith}
 use Rattle.digits.proofs.HexLaws.{digit_small, hex_grows}
-use Rattle.form.proofs.PieceLaws.{all_left, none_done, left_by, left_ok, left_err, left_none}
+use Rattle.form.proofs.PieceLaws.{left_by, left_ok, left_err, left_none}
 use Rattle.sirad.specs.Sirad.{number}
 use Rattle.sirad.proofs.Numbers.{number_fits, number_next, number_over}
 use Rattle.sirad.proofs.Runs.{one_passed}
 use Rattle.sirad_judge.proofs.hex_number.Goals as goal
-
-pub loop-init : goal.loop-init
-loop-init c = record { small = lit< tt; rest = all_left (none_done (λ m. number m 0) c.args.n) }
 
 pub returns-in_err-read : goal.returns-in_err-read
 returns-in_err-read c =

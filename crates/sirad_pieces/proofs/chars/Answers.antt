@@ -1,13 +1,10 @@
 -- What is left of the run is judged as the whole run is; each turn takes a chunk of it.
 use Rattle.std.proofs.Common.{◌≡◌, ◌+◌, ◌-◌, ◌*◌, ◌%◌, ap, arith}
-use Rattle.form.proofs.PieceLaws.{all_left, none_done, left_by, left_ok, left_err, left_is}
+use Rattle.form.proofs.PieceLaws.{left_by, left_ok, left_err, left_is}
 use Rattle.sirad.specs.Classes.{Char}
 use Rattle.sirad.specs.Sirad.{run}
 use Rattle.sirad.proofs.Runs.{run_part}
 use Rattle.sirad_pieces.proofs.chars.Goals as goal
-
-pub loop-init : goal.loop-init
-loop-init c = all_left (none_done (λ m. run m Char) c.args.n)
 
 pub returns-in_err-at : goal.returns-in_err-at
 returns-in_err-at c =
