@@ -13,7 +13,7 @@ import re
 import subprocess
 import sys
 
-from edits import ROOT, changes, edits, function_of
+from edits import CONVERSION, ROOT, changes, edits, function_of
 
 REFUSED = "refused, as it must be: "
 LINE = re.compile(r"^rt: must-fail (\w+)/(\S+)\.edit: (.*)$", re.M)
@@ -28,7 +28,8 @@ MISSING = re.compile(r"has no field|is not in scope|has no `|can be named from h
 def items(source):
     """The functions and constants of a source: name, whether it is a function, and where its text starts and ends."""
     for found in re.finditer(r'^( *)(?:pub )?(?:extern "C" )?fn (\w+).*?^\1\}$|^ *(?:pub )?const (\w+).*?;$', source, re.M | re.S):
-        yield found[2] or found[3], found[2] is not None, found.start(), found.end()
+        given = CONVERSION.findall(source, 0, found.start()) if found[2] == "from" else []
+        yield given[-1] if given else found[2] or found[3], found[2] is not None, found.start(), found.end()
 
 
 def item_at(source, place):
