@@ -1,8 +1,11 @@
-"""The must-fail edits. Each tries one wrong answer, and is named FUNCTION-WHAT after the public function whose promise excludes it."""
+"""The must-fail edits. Each tries one wrong answer, and is named FUNCTION-WHAT after the public function whose promise excludes it, or
+after the definition that a conversion promises."""
 import pathlib
 import re
 
 ROOT = pathlib.Path(__file__).resolve().parent.parent
+# An impl of From goes by the definition that it gives.
+CONVERSION = re.compile(r"ghost from_gives = \{ λ \w+ \w+\. \w+ ≡ (\w+) \w+ \};")
 
 
 def edits(crate):

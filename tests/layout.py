@@ -3,7 +3,7 @@ function of a library that asks its caller for something."""
 import re
 import sys
 
-from edits import ROOT as root, edits
+from edits import CONVERSION, ROOT as root, edits
 
 LONGEST = 140
 # rt tidy writes an import on one line, however long.
@@ -34,11 +34,12 @@ for crate in sorted((root / "crates").iterdir()):
     for name, signature in public.items():
         if (crate / "src" / "lib.rt").exists() and REQUIRES.search(signature):
             wrong.append(f"crates/{crate.name}: pub fn {name} has a requires")
+    named = {*public, *CONVERSION.findall(source)}
     for edit in edits(crate):
         answers += 1
         found = re.fullmatch(r"(\w+)-[a-z0-9]+(-[a-z0-9]+)*", edit.stem)
-        if not found or found[1] not in public:
-            wrong.append(f"{edit.relative_to(root)} is not named after a public function of the crate, and words joined by '-'")
+        if not found or found[1] not in named:
+            wrong.append(f"{edit.relative_to(root)} is not named after a public function or a conversion of the crate, and words joined by '-'")
 
 for row in wrong:
     print("layout:", row)

@@ -13,7 +13,7 @@ import re
 import subprocess
 import sys
 
-from edits import ROOT, changes, edits, function_of
+from edits import CONVERSION, ROOT, changes, edits, function_of
 
 REFUSED = "refused, as it must be: "
 LINE = re.compile(r"^rt: must-fail (\w+)/(\S+)\.edit: (.*)$", re.M)
@@ -27,10 +27,11 @@ MISSING = re.compile(r"has no field|is not in scope|has no `|can be named from h
 
 def items(source):
     """The functions, with their attributes, and the constants of a source: name, whether it is a function, and where its text starts and
-    ends."""
+    ends. A conversion goes by the definition that it gives."""
     function = r'^(?: *#\[[^\n]*\]\n)*( *)(?:pub )?(?:extern "C" )?fn (\w+).*?^\1\}$'
     for found in re.finditer(function + r"|^ *(?:pub )?const (\w+).*?;$", source, re.M | re.S):
-        yield found[2] or found[3], found[2] is not None, found.start(), found.end()
+        given = CONVERSION.findall(source, 0, found.start()) if found[2] == "from" else []
+        yield given[-1] if given else found[2] or found[3], found[2] is not None, found.start(), found.end()
 
 
 def item_at(source, place):

@@ -1,4 +1,5 @@
 pub mod PieceLaws
+pub mod ParsedLaws
 pub mod Theorems
 pub mod Bounds
 pub mod Lives

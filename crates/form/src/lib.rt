@@ -61,69 +61,71 @@ pub struct JudgementNumbers {
 }
 
 // The numbers of a judgement: those of `Whole(6, 8)` are state 1, kind 6, length 8 and otherwise 0.
-pub fn numbers_of(j: Judgement) -> JudgementNumbers
-    ensures { result ≡ numbers_of j }
-{
-    match j {
-        Judgement::Whole(kind, size) => JudgementNumbers {
-            refusal: 0,
-            state: STATE_WHOLE,
-            kind: kind,
-            reason: 0,
-            length: size,
-        },
-        Judgement::Bad(reason) => JudgementNumbers {
-            refusal: 0,
-            state: STATE_BAD,
-            kind: 0,
-            reason: reason,
-            length: 0,
-        },
-        Judgement::Waiting => JudgementNumbers {
-            refusal: 0,
-            state: STATE_WAITING,
-            kind: 0,
-            reason: 0,
-            length: 0,
-        },
+impl From<Judgement> for JudgementNumbers {
+    ghost from_gives = { λ j n. n ≡ numbers_of j };
+
+    fn from(j: Judgement) -> JudgementNumbers {
+        match j {
+            Judgement::Whole(kind, size) => JudgementNumbers {
+                refusal: 0,
+                state: STATE_WHOLE,
+                kind: kind,
+                reason: 0,
+                length: size,
+            },
+            Judgement::Bad(reason) => JudgementNumbers {
+                refusal: 0,
+                state: STATE_BAD,
+                kind: 0,
+                reason: reason,
+                length: 0,
+            },
+            Judgement::Waiting => JudgementNumbers {
+                refusal: 0,
+                state: STATE_WAITING,
+                kind: 0,
+                reason: 0,
+                length: 0,
+            },
+        }
     }
 }
 
 // The four-byte field at offset `at`: its number and the offset behind it, or waiting for its bytes.
-pub fn number(s: &[u8], at: usize) -> Judgement
-    ensures { Judges (four (always 0) any) at s.now result }
+pub fn number(s: &[u8], at: usize) -> Result<Parsed, Unparsed>
+    ensures { Judges (four (always 0) any) at s.now (judgement_of result) }
 {
     if s.len() < at {
-        return Judgement::Waiting;
+        return Err(Unparsed::Waiting);
     }
     if s.len() - at < 4 {
-        return Judgement::Waiting;
+        return Err(Unparsed::Waiting);
     }
     let v = numbers::join(s[at], s[at + 1], s[at + 2], s[at + 3]);
     let end = at + 4;
-    Judgement::Whole(v, end)
+    Ok(Parsed { value: v, end: end })
 }
 
 // The `n` free bytes from offset `at` on, in one step.
-pub fn skip(s: &[u8], at: usize, n: usize) -> Judgement
-    ensures { Judges (free n) at s.now result }
+pub fn skip(s: &[u8], at: usize, n: usize) -> Result<Parsed, Unparsed>
+    ensures { Judges (free n) at s.now (judgement_of result) }
 {
     if n == 0 {
-        return Judgement::Whole(0, at);
+        return Ok(Parsed { value: 0, end: at });
     }
     if s.len() < at {
-        return Judgement::Waiting;
+        return Err(Unparsed::Waiting);
     }
     if s.len() - at < n {
-        return Judgement::Waiting;
+        return Err(Unparsed::Waiting);
     }
     let end = at + n;
-    Judgement::Whole(0, end)
+    Ok(Parsed { value: 0, end: end })
 }
 
 // The `n` free four-byte fields from offset `at` on, in one step.
-pub fn skip_numbers(s: &[u8], at: usize, n: u8) -> Judgement
-    ensures { Judges (frees n) at s.now result }
+pub fn skip_numbers(s: &[u8], at: usize, n: u8) -> Result<Parsed, Unparsed>
+    ensures { Judges (frees n) at s.now (judgement_of result) }
 {
     let bytes = 4 * (n as usize);
     skip(s, at, bytes)

@@ -25,7 +25,7 @@ pub extern "C" fn vq_judge(dialect: u32, bytes: &[u8], offset: usize) -> Judgeme
             reason: 0,
             length: 0,
         },
-        Verdict::Judged(j) => form::numbers_of(j),
+        Verdict::Judged(j) => JudgementNumbers::from(j),
     }
 }
 

@@ -1,13 +1,5 @@
 -- The laws by which the packet's code is proved, for any profile: one for each case of a definition.
-use mathlib.Core.Bool.{Bool, true, false, cond, ◌&&◌, ◌||◌}
-use mathlib.Core.Path.{◌≡◌, refl, sym, ap, ◌∙◌}
-use mathlib.Core.List.{List}
-use mathlib.Core.Logic.{◌⊎◌, inl, inr}
-use Prim.Native.Nat.{ℕ, zero, suc, ◌+◌, ◌-◌, ◌*◌, ◌≤◌}
-use native.Mathlib.Omega.{arith}
-use lib.Bits.{bit_or}
-use lib.Dec.{leb, ltb}
-use borrow.Author.Tests.{leb-true}
+use Rattle.std.proofs.Common.{Bool, true, false, cond, ◌&&◌, ◌||◌, ◌≡◌, refl, sym, ap, ◌∙◌, List, ◌⊎◌, inl, inr, ℕ, zero, suc, ◌+◌, ◌-◌, ◌*◌, ◌≤◌, arith, bit_and, bit_or, leb, ltb, leb-true}
 use Rattle.digits.proofs.Choices.{and_left, and_right, and_parts, and_both}
 use Rattle.form.specs.declared.Judgement.{Judgement}
 use Rattle.form.specs.declared.Judgement.TheVariants.{Whole, Bad}
@@ -17,7 +9,7 @@ use Rattle.form.proofs.PieceLaws.{four_inverse, go_on, whole_there, taken, refus
 use Rattle.mmwave.specs.declared.Rule.{Rule}
 use Rattle.mmwave.specs.Profile.{Profile, legal, count_ok, fits, possible, fresh, type_ok, type_passes, type_reason, length_ok, see}
 use Rattle.mmwave.specs.Packet.{type_field, payload, last, records}
-use Rattle.mmwave.proofs.Marks.{seen_with}
+use Rattle.mmwave.proofs.Marks.{unseen, seen_with}
 
 -- -- The tests
 
@@ -88,6 +80,11 @@ module _ (P : Profile) (n seen k room at : ℕ) (bs : List ℕ) {j : Judgement} 
 
   pub type_taken : fresh P seen v ≡ true → type_ok P n k room v ≡ true → Whole v e ≡ judge_at (type_field P n seen k room) at bs
   type_taken f t = taken (type_reason P seen) (type_passes P n seen k room) at bs a b (type_passes_lem P n seen k room v f t)
+
+  -- by what the code has found of it: its mark is not among those seen, and some length of its rule fits
+  pub type_found : {mark : ℕ} {rule : Rule} {t : Bool} → mark ≡ P.mark v → bit_and seen mark ≡ 0 → rule ≡ P.rule v n
+      → t ≡ possible P k room rule → t ≡ true → Whole v e ≡ judge_at (type_field P n seen k room) at bs
+  type_found m u r t h = type_taken (unseen P seen v m u) (sym (type_test P n k room v r t) ∙ h)
 
 -- a payload judged by the rule of its type
 pub payload_by : (P : Profile) (n k room type at : ℕ) (bs : List ℕ) {rule : Rule} {r : Judgement} → rule ≡ P.rule type n

@@ -1,15 +1,10 @@
 -- The laws for a packet whose bytes are there, for any profile: it is judged by the numbers at their offsets.
-use mathlib.Core.Bool.{Bool, true, false, cond}
-use mathlib.Core.Path.{◌≡◌, refl, sym, ap, ◌∙◌}
-use mathlib.Core.List.{List, [], ◌∷◌}
-use Prim.Native.Nat.{ℕ, zero, suc, ◌+◌, ◌-◌, ◌*◌, ◌<◌, ◌≤◌}
-use native.Mathlib.Omega.{arith}
-use lib.Bits.{bit_and, bit_or}
-use lib.Dec.{eqb}
-use lib.ListN.{length, take, get_or}
-use borrow.Author.Tests.{eq-eqb, ne_eqb, eqb-true}
-use Rattle.digits.proofs.Choices.{both_ways}
-use Rattle.digits.specs.LittleEndian.{from_little, little_at}
+use Rattle.std.proofs.Common.{[], ◌∷◌, Bool, true, false, cond, ◌≡◌, refl, sym, ap, ◌∙◌, List, ℕ, zero, suc, ◌+◌, ◌-◌, ◌*◌, ◌<◌, ◌≤◌, arith, bit_and, bit_or, eqb, length, take, get_or, ne_eqb, eqb-true, w64}
+use Rattle.std.proofs.lemmas.Bool.{eqb-false}
+use lib.Seq.{length-take-le}
+use Rattle.std.proofs.lemmas.Nat.{le_bytes_8}
+use Rattle.std.specs.Int.{from_le_bytes, to_le_bytes}
+use Rattle.digits.specs.LittleEndian.{little_at}
 use Rattle.form.specs.declared.Judgement.{Judgement}
 use Rattle.form.specs.declared.Judgement.TheVariants.{Whole, Bad}
 use Rattle.form.specs.Form.{whole, judge, judge_at}
@@ -212,44 +207,35 @@ module _ (P : Profile) (bs : List ℕ) (there : 40 ≤ length bs) where
 
 -- -- The magic
 
--- the first eight of the bytes
-eight : (bs : List ℕ) → 8 ≤ length bs
-    → take 8 bs ≡ get_or bs 0 0 ∷ get_or bs 1 0 ∷ get_or bs 2 0 ∷ get_or bs 3 0 ∷ get_or bs 4 0 ∷ get_or bs 5 0 ∷ get_or bs 6 0 ∷ get_or
-    bs 7 0 ∷ []
-eight [] h = absurd (omega arith)
-eight (a ∷ []) h = absurd (omega arith)
-eight (a ∷ b ∷ []) h = absurd (omega arith)
-eight (a ∷ b ∷ c ∷ []) h = absurd (omega arith)
-eight (a ∷ b ∷ c ∷ d ∷ []) h = absurd (omega arith)
-eight (a ∷ b ∷ c ∷ d ∷ e ∷ []) h = absurd (omega arith)
-eight (a ∷ b ∷ c ∷ d ∷ e ∷ f ∷ []) h = absurd (omega arith)
-eight (a ∷ b ∷ c ∷ d ∷ e ∷ f ∷ g ∷ []) h = absurd (omega arith)
-eight (a ∷ b ∷ c ∷ d ∷ e ∷ f ∷ g ∷ i ∷ bs) h = refl
-
--- four bytes that stand one behind the other from an offset on
-abbrev pub FourAre : List ℕ → ℕ → ℕ → ℕ → ℕ → ℕ → Type 0
-FourAre bs at w x y z = (get_or bs at 0 ≡ w) × (get_or bs (at + 1) 0 ≡ x) × (get_or bs (at + 2) 0 ≡ y) × (get_or bs (at + 3) 0 ≡ z)
-
--- the magic is two such fours
-pub magic_met : (bs : List ℕ) → 8 ≤ length bs → FourAre bs 0 2 1 4 3 → FourAre bs 4 6 5 8 7 → take 8 bs ≡ magic
+magic_small : (i : ℕ) → get_or magic i 0 < 256
 unfolding magic
-magic_met bs h a b = eight bs h ∙ rw (a.0, a.1, a.2, a.3, b.0, b.1, b.2, b.3)
+magic_small zero = omega arith
+magic_small (suc zero) = omega arith
+magic_small (suc (suc zero)) = omega arith
+magic_small (suc (suc (suc zero))) = omega arith
+magic_small (suc (suc (suc (suc zero)))) = omega arith
+magic_small (suc (suc (suc (suc (suc zero))))) = omega arith
+magic_small (suc (suc (suc (suc (suc (suc zero)))))) = omega arith
+magic_small (suc (suc (suc (suc (suc (suc (suc zero))))))) = omega arith
+magic_small (suc (suc (suc (suc (suc (suc (suc (suc i)))))))) = omega arith
 
--- and the other way round
-pub magic_fours : (bs : List ℕ) → 8 ≤ length bs → take 8 bs ≡ magic → FourAre bs 0 2 1 4 3 × FourAre bs 4 6 5 8 7
-unfolding magic
-magic_fours bs h e = let f = sym (eight bs h) ∙ e in ((cc, cc, cc, cc), (cc, cc, cc, cc))
+take_small : (n : ℕ) (bs : List ℕ) → ((i : ℕ) → get_or bs i 0 < 256) → (i : ℕ) → get_or (take n bs) i 0 < 256
+take_small zero bs small i = omega arith
+take_small (suc n) [] small i = omega arith
+take_small (suc n) (b ∷ bs) small zero = small 0
+take_small (suc n) (b ∷ bs) small (suc i) = take_small n bs (λ j. small (suc j)) i
 
-module _ (a b c d w x y z : ℕ) {p q : ℕ} (p-is : p ≡ from_little (a ∷ b ∷ c ∷ d ∷ [])) (q-is : q ≡ from_little (w ∷ x ∷ y ∷ z ∷ [])) where
-  -- four bytes whose number is that of four others are these
-  pub same_bytes : a < 256 → b < 256 → c < 256 → d < 256 → w < 256 → x < 256 → y < 256 → z < 256 → eqb p q ≡ true
-      → (a ≡ w) × (b ≡ x) × (c ≡ y) × (d ≡ z)
-  unfolding from_little
-  same_bytes ha hb hc hd hw hx hy hz e = let f = eqb-true p q e in (omega arith, omega arith, omega arith, omega arith)
+-- the first eight bytes and the magic, compared as numbers
+module _ (bs first : List ℕ) (there : 8 ≤ length bs) (small : (i : ℕ) → get_or bs i 0 < 256) (is_first : first ≡ take 8 bs) {p q : ℕ}
+    (p-is : p ≡ from_le_bytes w64 first) (q-is : q ≡ from_le_bytes w64 magic) where
+  read : p ≡ from_le_bytes w64 (take 8 bs)
+  read = p-is ∙ ap (from_le_bytes w64) is_first
 
-  -- and with another number they are not
-  pub other_bytes : eqb p q ≡ false → (a ≡ w) × (b ≡ x) × (c ≡ y) × (d ≡ z) → ⊥
-  other_bytes e s = both_ways (eqb p q) (eq-eqb p q (p-is ∙ numbers ∙ sym q-is)) e
-    where
-      numbers : from_little (a ∷ b ∷ c ∷ d ∷ []) ≡ from_little (w ∷ x ∷ y ∷ z ∷ [])
-      numbers = rw (s.0, s.1, s.2, s.3)
+  pub magic_met : eqb p q ≡ true → take 8 bs ≡ magic
+  unfolding magic
+  magic_met e =
+      sym (le_bytes_8 (take 8 bs) p (length-take-le 8 bs there) (take_small 8 bs small) read)
+      ∙ ap (to_le_bytes w64) (eqb-true p q e) ∙ le_bytes_8 magic q refl magic_small q-is
+
+  pub magic_missed : eqb p q ≡ false → take 8 bs ≡ magic → ⊥
+  magic_missed e m = eqb-false p q e (read ∙ ap (from_le_bytes w64) m ∙ sym q-is)

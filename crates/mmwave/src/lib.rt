@@ -25,6 +25,9 @@ pub struct Header {
 }
 
 impl Header {
+    // What every packet begins with.
+    pub const MAGIC: [u8; 8] = [2, 1, 4, 3, 6, 5, 8, 7];
+
     pub const VERSION: usize = 8;
 
     pub const TOTAL: usize = 12;

@@ -2,7 +2,6 @@
 #![tactic(auto)]
 
 ghost use Rattle.std.specs.Prelude.{◌≡◌, true, false, ◌+◌, ◌-◌, ◌*◌, ◌≤◌, length, take};
-ghost use Rattle.digits.specs.LittleEndian.{little_at};
 ghost use Rattle.form.specs.Form.{judge as judge_form, judge_at};
 ghost use Rattle.form.specs.Numbers.{Judges};
 ghost use Rattle.mmwave.specs.Packet.{magic, records, packet};
@@ -14,31 +13,15 @@ use mmwave_dialects::{objects_ok, subframe_ok};
 use mmwave_header::{count_ok, total_ok};
 use mmwave_inside::judge_records;
 use mmwave_pieces::{BAD_COUNT, BAD_FIXED, BAD_TOTAL, NO_MAGIC, judge_pieces};
+use numbers::word_at;
 
-// Whether a, b, c, d are w, x, y, z: compared as one number.
-fn same_four(a: u8, b: u8, c: u8, d: u8, w: u8, x: u8, y: u8, z: u8) -> bool
-    ensures { (result ≡ true → (a ≡ w) × (b ≡ x) × (c ≡ y) × (d ≡ z)) × (result ≡ false → (a ≡ w) × (b ≡ x) × (c ≡ y) × (d ≡ z) → ⊥) }
-{
-    numbers::join(a, b, c, d) == numbers::join(w, x, y, z)
-}
-
-// Whether the bytes begin with the magic.
+// Whether the bytes begin with the magic: compared as one number, in one step.
 fn has_magic(s: &[u8]) -> bool
     requires { 8 ≤ length s.now }
     ensures { (result ≡ true → take 8 s.now ≡ magic) × (result ≡ false → take 8 s.now ≡ magic → ⊥) }
 {
-    if same_four(s[0], s[1], s[2], s[3], 2, 1, 4, 3) {
-        return same_four(s[4], s[5], s[6], s[7], 6, 5, 8, 7);
-    }
-    false
-}
-
-// The number at an offset of a header that is there.
-fn number(s: &[u8], at: usize) -> u32
-    requires { at + 4 ≤ length s.now }
-    ensures { result ≡ little_at 4 at s.now }
-{
-    numbers::word_at(s, at)
+    let first: &[u8; 8] = s.first_chunk().unwrap();
+    u64::from_le_bytes(*first) == u64::from_le_bytes(Header::MAGIC)
 }
 
 // What follows the header, with a total length and a record count that passed.
@@ -56,13 +39,13 @@ fn judge_header(s: &[u8], d: PacketDialect) -> Judgement
     ensures { result ≡ judge_form (packet (profile_of d)) 0 s.now }
 {
     if has_magic(s) {
-        let l = number(s, Header::TOTAL);
+        let l = word_at(s, Header::TOTAL);
         if total_ok(l, d) {
-            let objects = number(s, Header::OBJECTS);
+            let objects = word_at(s, Header::OBJECTS);
             if objects_ok(objects, d) {
-                let k = number(s, Header::RECORDS);
+                let k = word_at(s, Header::RECORDS);
                 if count_ok(l, k, d) {
-                    if subframe_ok(number(s, Header::SUBFRAME), d) {
+                    if subframe_ok(word_at(s, Header::SUBFRAME), d) {
                         return behind_header(s, l, objects, k, d);
                     }
                     return Judgement::Bad(BAD_FIXED);
@@ -82,7 +65,7 @@ pub fn judge(bytes: &[u8], d: PacketDialect) -> Judgement
     ensures { Judges (packet (profile_of d)) 0 bytes.now result }
 {
     if bytes.len() < Header::SIZE {
-        return judge_pieces(bytes, d);
+        return Judgement::from(judge_pieces(bytes, d));
     }
     judge_header(bytes, d)
 }

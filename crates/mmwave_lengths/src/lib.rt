@@ -28,27 +28,18 @@ fn beyond(unit: Unit, m: u32) -> u32
     m & low_bits(unit)
 }
 
-// Does a payload of `m` bytes fit, with `k` records left (this one counted) and `room` bytes for their payloads and the padding?
-fn payload_fits(k: u32, room: u32, m: u32, d: PacketDialect) -> bool
+// Does a payload of `m` bytes fit, with `k` records left (this one counted) and `room` bytes for their payloads and the padding? An exact
+// length may need more than 32 bits.
+fn payload_fits(k: u32, room: u32, m: u64, d: PacketDialect) -> bool
     ensures { result ≡ fits (profile_of d) k room m }
 {
     if 1 < k {
-        return m <= room;
+        return m <= room as u64;
     }
-    if room < m {
+    if (room as u64) < m {
         return false;
     }
-    room - m <= padding_of(d)
-}
-
-// The same for a length that may need more than 32 bits.
-fn exact_fits(k: u32, room: u32, n: u64, d: PacketDialect) -> bool
-    ensures { result ≡ fits (profile_of d) k room n }
-{
-    if (room as u64) < n {
-        return false;
-    }
-    payload_fits(k, room, n as u32, d)
+    room as u64 - m <= padding_of(d) as u64
 }
 
 // Does some multiple of the unit fit?
@@ -67,7 +58,7 @@ pub fn type_ok(rule: Rule, k: u32, room: u32, d: PacketDialect) -> bool
 {
     match rule {
         Rule::Never => false,
-        Rule::Exact(n) => exact_fits(k, room, n, d),
+        Rule::Exact(n) => payload_fits(k, room, n, d),
         Rule::Multiple(unit) => some_multiple_fits(k, room, unit, d),
         Rule::Free => true,
     }
@@ -90,7 +81,7 @@ pub fn length_ok(rule: Rule, k: u32, room: u32, m: u32, d: PacketDialect) -> boo
     ensures { result ≡ length_ok (profile_of d) rule k room m }
 {
     if length_legal(rule, m) {
-        return payload_fits(k, room, m, d);
+        return payload_fits(k, room, m as u64, d);
     }
     false
 }

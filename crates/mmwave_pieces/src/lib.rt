@@ -1,15 +1,14 @@
 // A packet judged piece by piece in byte order, which fits any number of bytes (paper 01, "mmWave" and "Judging a place"; paper 02, (i)).
 #![tactic(auto)]
 
-ghost use Rattle.std.specs.Prelude.{◌≡◌};
+ghost use Rattle.std.specs.Prelude.{◌≡◌, Bool, ℕ, ◌^◌, ◌<◌};
 ghost use Rattle.form.specs.Form.{judge_at};
-ghost use Rattle.form.specs.Numbers.{Judges};
+ghost use Rattle.form.specs.Numbers.{judgement_of, Judges};
 ghost use Rattle.form.specs.Pieces.{always, four, marker};
 ghost use Rattle.mmwave.specs.Packet.{magic, counted, packet};
 ghost use Rattle.mmwave.specs.Dialects.{profile_of};
-ghost use Rattle.mmwave_pieces.specs.Internal.{reason_of, test_of};
 
-use form::Judgement;
+use form::{Parsed, Unparsed};
 use mmwave::{Header, PacketDialect};
 use mmwave_dialects::{objects_ok, subframe_ok};
 use mmwave_header::{count_ok, total_ok};
@@ -24,115 +23,59 @@ pub const BAD_COUNT: u32 = 22;
 
 pub const BAD_FIXED: u32 = 26;
 
-const MAGIC: [u8; 8] = [2, 1, 4, 3, 6, 5, 8, 7];
-
-// The magic, byte by byte.
-fn magic_at(s: &[u8], from: usize) -> Judgement
-    ensures { result ≡ judge_at (marker 20 magic) from s.now }
+// The magic is there, or the bytes go no further than it, or another byte is there.
+fn judge_magic(s: &[u8]) -> Result<Parsed, Unparsed>
+    ensures { judgement_of result ≡ judge_at (marker 20 magic) 0 s.now }
 {
-    let mut at = from;
-    let mut i: usize = 0;
-    while i < 8 {
-        if s.len() <= at {
-            return Judgement::Waiting;
-        }
-        if s[at] != MAGIC[i] {
-            return Judgement::Bad(NO_MAGIC);
-        }
-        at += 1;
-        i += 1;
+    if s.starts_with(&Header::MAGIC) {
+        return Ok(Parsed {
+            value: 0,
+            end: Header::MAGIC.len(),
+        });
     }
-    Judgement::Whole(0, at)
+    if Header::MAGIC.starts_with(s) {
+        return Err(Unparsed::Waiting);
+    }
+    Err(Unparsed::Bad(NO_MAGIC))
 }
 
-// The fields of the header that have a test.
-#[derive(Clone, Copy)]
-pub enum Check {
-    Total,
-    Objects,
-    // the record count, under this total length
-    Count(u32),
-    Subframe,
-}
-
-// The reason of a field that does not pass.
-fn reason_of(check: Check) -> u32
-    ensures { result ≡ reason_of check }
+// A field of the header whose number has to pass a test, and the reason if it does not.
+fn checked_at<F: FnOnce(u32) -> bool>(
+    s: &[u8],
+    at: usize,
+    reason: u32,
+    passes: F,
+) -> Result<Parsed, Unparsed>
+    requires { F.IsAlwaysCallable passes }
+    ensures { (test : ℕ → Bool) → ((v : ℕ) (b : Bool) → v < 2 ^ 32 → F.post passes v b → b ≡ test v)
+        → judgement_of result ≡ judge_at (four (always reason) test) at s.now }
 {
-    match check {
-        Check::Total => BAD_TOTAL,
-        Check::Objects => BAD_FIXED,
-        Check::Count(_) => BAD_COUNT,
-        Check::Subframe => BAD_FIXED,
+    let field = form::number(s, at)?;
+    if passes(field.value) {
+        return Ok(field);
     }
-}
-
-// Does the field's number pass?
-fn passes(check: Check, v: u32, d: PacketDialect) -> bool
-    ensures { result ≡ test_of (profile_of d) check v }
-{
-    match check {
-        Check::Total => total_ok(v, d),
-        Check::Objects => objects_ok(v, d),
-        Check::Count(l) => count_ok(l, v, d),
-        Check::Subframe => subframe_ok(v, d),
-    }
-}
-
-// A field of the header, and its test.
-fn checked_at(s: &[u8], at: usize, check: Check, d: PacketDialect) -> Judgement
-    ensures { result ≡ judge_at (four (always (reason_of check)) (test_of (profile_of d) check)) at s.now }
-{
-    let a = form::number(s, at);
-    let Judgement::Whole(v, e) = a else {
-        return a;
-    };
-    if passes(check, v, d) {
-        return Judgement::Whole(v, e);
-    }
-    Judgement::Bad(reason_of(check))
+    Err(Unparsed::Bad(reason))
 }
 
 // What follows the total length: three free fields, the object count, the record count, the subframe, the records.
-fn behind_total(s: &[u8], at: usize, l: u32, d: PacketDialect) -> Judgement
-    ensures { result ≡ judge_at (counted (profile_of d) l) at s.now }
+fn behind_total(s: &[u8], at: usize, l: u32, d: PacketDialect) -> Result<Parsed, Unparsed>
+    ensures { judgement_of result ≡ judge_at (counted (profile_of d) l) at s.now }
 {
-    let a = form::skip_numbers(s, at, 3);
-    let Judgement::Whole(_, g) = a else {
-        return a;
-    };
-    let b = checked_at(s, g, Check::Objects, d);
-    let Judgement::Whole(objects, h) = b else {
-        return b;
-    };
-    let m = checked_at(s, h, Check::Count(l), d);
-    let Judgement::Whole(k, i) = m else {
-        return m;
-    };
-    let f = checked_at(s, i, Check::Subframe, d);
-    let Judgement::Whole(_, j) = f else {
-        return f;
-    };
-    let used = Header::SIZE + 8 * (k as usize);
+    let i = form::skip_numbers(s, at, 3)?.end;
+    let objects = checked_at(s, i, BAD_FIXED, |n| objects_ok(n, d))?;
+    let count = checked_at(s, objects.end, BAD_COUNT, |k| count_ok(l, k, d))?;
+    let j = checked_at(s, count.end, BAD_FIXED, |v| subframe_ok(v, d))?.end;
+    let used = Header::SIZE + 8 * (count.value as usize);
     let room = (l as usize) - used;
-    walk(s, j, objects, 0, k, room as u32, d)
+    walk(s, j, objects.value, 0, count.value, room as u32, d)
 }
 
 // The judgement piece by piece, which fits any number of bytes.
-pub fn judge_pieces(bytes: &[u8], d: PacketDialect) -> Judgement
-    ensures { Judges (packet (profile_of d)) 0 bytes.now result }
+pub fn judge_pieces(bytes: &[u8], d: PacketDialect) -> Result<Parsed, Unparsed>
+    ensures { Judges (packet (profile_of d)) 0 bytes.now (judgement_of result) }
 {
-    let a = magic_at(bytes, 0);
-    let Judgement::Whole(_, g) = a else {
-        return a;
-    };
-    let b = form::skip_numbers(bytes, g, 1);
-    let Judgement::Whole(_, h) = b else {
-        return b;
-    };
-    let m = checked_at(bytes, h, Check::Total, d);
-    let Judgement::Whole(l, i) = m else {
-        return m;
-    };
-    behind_total(bytes, i, l, d)
+    let h = judge_magic(bytes)?.end;
+    let i = form::skip_numbers(bytes, h, 1)?.end;
+    let total = checked_at(bytes, i, BAD_TOTAL, |l| total_ok(l, d))?;
+    behind_total(bytes, total.end, total.value, d)
 }

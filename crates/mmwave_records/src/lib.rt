@@ -4,11 +4,11 @@
 
 ghost use Rattle.std.specs.Prelude.{◌≡◌};
 ghost use Rattle.form.specs.Form.{judge_at};
-ghost use Rattle.form.specs.Numbers.{Judges};
+ghost use Rattle.form.specs.Numbers.{judgement_of, Judges};
 ghost use Rattle.mmwave.specs.Packet.{payload, last, records};
 ghost use Rattle.mmwave.specs.Dialects.{profile_of};
 
-use form::Judgement;
+use form::{Parsed, Unparsed};
 use mmwave::{PacketDialect, Rule};
 use mmwave_dialects::kind_of;
 use mmwave_lengths::{length_ok, type_ok};
@@ -22,32 +22,36 @@ pub const BAD_LENGTH: u32 = 24;
 pub const BAD_REPEATED: u32 = 25;
 
 // A record's payload length, by the rule of its type, and its payload: the length, and the offset behind the record.
-fn payload_at(s: &[u8], at: usize, rule: Rule, k: u32, room: u32, d: PacketDialect) -> Judgement
-    ensures { result ≡ judge_at (payload (profile_of d) rule k room) at s.now }
+fn payload_at(
+    s: &[u8],
+    at: usize,
+    rule: Rule,
+    k: u32,
+    room: u32,
+    d: PacketDialect,
+) -> Result<Parsed, Unparsed>
+    ensures { judgement_of result ≡ judge_at (payload (profile_of d) rule k room) at s.now }
 {
-    let a = form::number(s, at);
-    let Judgement::Whole(m, i) = a else {
-        return a;
-    };
-    if length_ok(rule, k, room, m, d) {
-        let b = form::skip(s, i, m as usize);
-        let Judgement::Whole(_, e) = b else {
-            return b;
-        };
-        return Judgement::Whole(m, e);
+    let length = form::number(s, at)?;
+    if length_ok(rule, k, room, length.value, d) {
+        let end = form::skip(s, length.end, length.value as usize)?.end;
+        return Ok(Parsed {
+            value: length.value,
+            end: end,
+        });
     }
-    Judgement::Bad(BAD_LENGTH)
+    Err(Unparsed::Bad(BAD_LENGTH))
 }
 
 // The padding, and with it the packet's end.
-fn padding_at(s: &[u8], at: usize, room: u32, d: PacketDialect) -> Judgement
-    ensures { result ≡ judge_at (last (profile_of d) room) at s.now }
+fn padding_at(s: &[u8], at: usize, room: u32, d: PacketDialect) -> Result<Parsed, Unparsed>
+    ensures { judgement_of result ≡ judge_at (last (profile_of d) room) at s.now }
 {
-    let a = form::skip(s, at, room as usize);
-    let Judgement::Whole(_, e) = a else {
-        return a;
-    };
-    Judgement::Whole(kind_of(d), e)
+    let end = form::skip(s, at, room as usize)?.end;
+    Ok(Parsed {
+        value: kind_of(d),
+        end: end,
+    })
 }
 
 // The `k` records from `at` on, and the padding: the first one, then the remaining ones right behind it, with its type among those seen.
@@ -60,29 +64,31 @@ fn walk_from(
     k: u32,
     room: u32,
     d: PacketDialect,
-) -> Judgement
-    ensures { result ≡ judge_at (records (profile_of d) objects seen k room) at s.now.now }
+) -> Result<Parsed, Unparsed>
+    ensures { judgement_of result ≡ judge_at (records (profile_of d) objects seen k room) at s.now.now }
 {
     if k == 0 {
         return padding_at(*s, at, room, d);
     }
-    let a = form::number(*s, at);
-    let Judgement::Whole(tag, i) = a else {
-        return a;
-    };
-    let mark = mark_of(tag, d);
+    let tag = form::number(*s, at)?;
+    let mark = mark_of(tag.value, d);
     if seen & mark != 0 {
-        return Judgement::Bad(BAD_REPEATED);
+        return Err(Unparsed::Bad(BAD_REPEATED));
     }
-    let rule = rule_of(tag, objects, d);
+    let rule = rule_of(tag.value, objects, d);
     if type_ok(rule, k, room, d) {
-        let b = payload_at(*s, i, rule, k, room, d);
-        let Judgement::Whole(m, e) = b else {
-            return b;
-        };
-        return walk_from(s, e, objects, seen | mark, k - 1, room - m, d);
+        let payload = payload_at(*s, tag.end, rule, k, room, d)?;
+        return walk_from(
+            s,
+            payload.end,
+            objects,
+            seen | mark,
+            k - 1,
+            room - payload.value,
+            d,
+        );
     }
-    Judgement::Bad(BAD_TYPE)
+    Err(Unparsed::Bad(BAD_TYPE))
 }
 
 // The `k` records from `at` on, behind records whose types have been seen, and the padding.
@@ -94,8 +100,8 @@ pub fn walk(
     k: u32,
     room: u32,
     d: PacketDialect,
-) -> Judgement
-    ensures { Judges (records (profile_of d) objects seen k room) at s.now result }
+) -> Result<Parsed, Unparsed>
+    ensures { Judges (records (profile_of d) objects seen k room) at s.now (judgement_of result) }
 {
     walk_from(&s, at, objects, seen, k, room, d)
 }

@@ -1,5 +1,5 @@
 -- `gateway::vq_judge` meets its contract: the numbers are those of the verdict, by its case.
-use mathlib.Core.Path.{sym, ap, ◌∙◌}
+use Rattle.std.proofs.Common.{sym, ap, ◌∙◌}
 use Rattle.capture.specs.Entries.{verdict_numbers}
 use Rattle.gateway.proofs.vq_judge.Goals as goal
 
@@ -9,4 +9,4 @@ returns-in-Refused c = ap verdict_numbers (sym c.in-Refused.is ∙ c.judge_at.en
 pub returns-in-Judged : goal.returns-in-Judged
 returns-in-Judged c =
     let judged = c.judge_at.ensures.answers in
-    c.numbers_of.ensures ∙ ap verdict_numbers (sym c.in-Judged.is ∙ judged)
+    c.from.ensures ∙ ap verdict_numbers (sym c.in-Judged.is ∙ judged)

@@ -1,11 +1,8 @@
--- The walk's judgement, or its number where all bytes are there.
-use native.Mathlib.Omega.{arith}
+-- By the walk's number where all bytes are there.
+use Rattle.std.proofs.Common.{arith}
 use Rattle.form.proofs.PieceLaws.{judges}
 use Rattle.mmwave.proofs.Within.{settled_whole, settled_bad}
 use Rattle.mmwave_inside.proofs.judge_records.Goals as goal
-
-pub returns-then-s-total : goal.returns-then-s-total
-returns-then-s-total c = c.walk.ensures
 
 pub returns-then-reason-eq0 : goal.returns-then-reason-eq0
 returns-then-reason-eq0 c =

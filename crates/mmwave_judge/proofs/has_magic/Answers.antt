@@ -1,21 +1,16 @@
--- Both halves of the magic are compared.
-use mathlib.Core.Bool.{false}
-use mathlib.Core.Path.{refl}
-use Rattle.digits.proofs.Choices.{both_ways}
-use Rattle.mmwave.proofs.Within.{magic_met, magic_fours}
+-- Eight bytes are the magic exactly if their numbers are equal.
+use Rattle.std.proofs.Common.{ℕ, ◌<◌, get_or}
+use Rattle.mmwave.specs.Packet.{magic}
+use Rattle.mmwave.proofs.Within.{magic_met, magic_missed}
 use Rattle.mmwave_judge.proofs.has_magic.Goals as goal
 
--- the first four are those of the magic
-pub returns-then-same_four : goal.returns-then-same_four
-returns-then-same_four c =
-    let bs = c.args.s.now in (
-      λ e. magic_met bs c.requires (c.same_four.ensures.0 c.if-same_four.true) (c.same_four-then-same_four.ensures.0 e),
-      λ e m. c.same_four-then-same_four.ensures.1 e (magic_fours bs c.requires m).1,
-    )
-
--- they are not
 pub returns : goal.returns
-returns c = (
-  λ e. both_ways false e refl,
-  λ e m. c.same_four.ensures.1 c.if-same_four.false (magic_fours c.args.s.now c.requires m).0,
-)
+unfolding magic
+returns c =
+    let bs = c.args.s.now in
+    let first = c.unwrap-first.result.now in
+    let chunk = rw c.unwrap-first.ensures at c.first_chunk.ensures.cases in
+    let small : (i : ℕ) → get_or bs i 0 < 256 = λ i. (c.type_inv.s i).fits in (
+      magic_met bs first c.requires small chunk.same c.from_le_bytes.ensures c.from_le_bytes-2.ensures,
+      magic_missed bs first c.requires small chunk.same c.from_le_bytes.ensures c.from_le_bytes-2.ensures,
+    )

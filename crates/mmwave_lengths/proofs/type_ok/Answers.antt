@@ -10,7 +10,7 @@ pub returns-in-Never : goal.returns-in-Never
 returns-in-Never c = possible_never _ _ _ c.in-Never.is
 
 pub returns-in-Exact : goal.returns-in-Exact
-returns-in-Exact c = possible_exact _ _ _ _ c.in-Exact.is c.exact_fits.ensures
+returns-in-Exact c = possible_exact _ _ _ _ c.in-Exact.is c.payload_fits.ensures
 
 pub returns-in-Multiple : goal.returns-in-Multiple
 returns-in-Multiple c = possible_multiple _ _ _ _ c.in-Multiple.is c.some_multiple_fits.ensures

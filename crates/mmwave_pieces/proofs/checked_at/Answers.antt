@@ -1,26 +1,22 @@
 -- The free field, and then its test.
-use mathlib.Core.Path.{sym, ap, ◌∙◌}
-use Rattle.form.specs.declared.Judgement.TheVariants.{Bad}
+use Rattle.std.proofs.Common.{◌<◌, ◌^◌, rules, sym, ◌∙◌}
 use Rattle.form.specs.Pieces.{always}
-use Rattle.form.proofs.PieceLaws.{unread, taken, refused}
-use Rattle.mmwave.specs.Dialects.{profile_of}
-use Rattle.mmwave_pieces.specs.Internal.{reason_of, test_of}
+use Rattle.form.proofs.ParsedLaws.{parsed_unread, parsed_taken, parsed_refused}
 use Rattle.mmwave_pieces.proofs.checked_at.Goals as goal
 
-pub returns-in_default : goal.returns-in_default
-returns-in_default c =
-    let a = c.args in
-    unread (always (reason_of a.check)) (test_of (profile_of a.d) a.check) _ _ c.number-a.ensures.answers c.in_default.not-Whole
+pub returns-in_err-field : goal.returns-in_err-field
+returns-in_err-field g c = λ test tells.
+    parsed_unread (always c.args.reason) test _ _ c.number.ensures.answers c.from_residual.result c.in_err-field.was
+    c.from_residual.ensures.1
 
 pub returns-then-passes : goal.returns-then-passes
-returns-then-passes c =
-    let a = c.args in
-    taken (always (reason_of a.check)) (test_of (profile_of a.d) a.check) _ _ c.number-a.ensures.answers c.in-Whole.is
-    (sym c.passes.ensures ∙ c.if-passes.true)
+returns-then-passes g c = λ test tells.
+    let small : c.in_ok-field.field.value < 2 ^ 32 = search rules in
+    parsed_taken (always c.args.reason) test _ _ c.number.ensures.answers c.in_ok-field.was
+    (sym (tells _ _ small c.passes.ensures) ∙ c.if-passes.true)
 
 pub returns : goal.returns
-returns c =
-    let a = c.args in
-    ap Bad c.reason_of.ensures
-    ∙ refused (always (reason_of a.check)) (test_of (profile_of a.d) a.check) _ _ c.number-a.ensures.answers c.in-Whole.is
-    (sym c.passes.ensures ∙ c.if-passes.false)
+returns g c = λ test tells.
+    let small : c.in_ok-field.field.value < 2 ^ 32 = search rules in
+    parsed_refused (always c.args.reason) test _ _ c.number.ensures.answers c.in_ok-field.was
+    (sym (tells _ _ small c.passes.ensures) ∙ c.if-passes.false)
