@@ -2,9 +2,11 @@
 #![tactic(auto)]
 
 ghost use Rattle.std.specs.Prelude.{◌≡◌, [], ◌∷◌, replicate};
+ghost use Rattle.refusals.specs.Numbers.{refusal_number};
 ghost use Rattle.digits.specs.Stores.{stored_within, writer_refusal};
 
 use digits::OUTPUT_TOO_SHORT;
+use refusals::Refusal;
 
 // Lays two bytes over the buffer at an offset; changes nothing where they do not fit.
 // `put_pair(out, 6, b'\r', b'\n')` stores a stop marker.
@@ -69,4 +71,14 @@ pub fn refusal_of(unfit: u32, size: usize, room: usize) -> u32
         return OUTPUT_TOO_SHORT;
     }
     0
+}
+
+// Whether so many bytes have room: 51 where it is too short. `check_room(26, 25)` is refused.
+pub fn check_room(size: usize, room: usize) -> Result<(), Refusal>
+    ensures { refusal_number result ≡ writer_refusal 0 size room }
+{
+    if size > room {
+        return Err(Refusal::OutputTooShort);
+    }
+    Ok(())
 }
