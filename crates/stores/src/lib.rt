@@ -61,3 +61,13 @@ pub fn refusal_of(unfit: u32, size: usize, room: usize) -> u32
     }
     0
 }
+
+// Whether so many bytes have room: 51 where it is too short. `check_room(26, 25)` is refused.
+pub fn check_room(size: usize, room: usize) -> Result<(), Refusal>
+    ensures { refusal_number result ≡ writer_refusal 0 size room }
+{
+    if size > room {
+        return Err(Refusal::OutputTooShort);
+    }
+    Ok(())
+}
