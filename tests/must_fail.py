@@ -30,7 +30,7 @@ def items(source):
     ends. A conversion goes by the definition that it gives."""
     function = r'^(?: *#\[[^\n]*\]\n)*( *)(?:pub )?(?:extern "C" )?fn (\w+).*?^\1\}$'
     for found in re.finditer(function + r"|^ *(?:pub )?const (\w+).*?;$", source, re.M | re.S):
-        given = CONVERSION.findall(source, 0, found.start()) if found[2] == "from" else []
+        given = CONVERSION.findall(source, 0, found.start()) if found[2] in ("from", "try_from") else []
         yield given[-1] if given else found[2] or found[3], found[2] is not None, found.start(), found.end()
 
 
