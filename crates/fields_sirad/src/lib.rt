@@ -12,7 +12,7 @@ use sirad_fields::{DataFrame, ErrorFrame, StatusFrame, TargetFrame};
 pub extern "C" fn vq_read_data(frame: &[u8]) -> DataFrame
     ensures { result ≡ read_data frame.now }
 {
-    sirad_read::read_data(frame)
+    DataFrame::from(sirad_read::read_data(frame))
 }
 
 // The sixteen targets of exactly one whole T frame; else 5.
@@ -20,7 +20,7 @@ pub extern "C" fn vq_read_data(frame: &[u8]) -> DataFrame
 pub extern "C" fn vq_read_targets(frame: &[u8]) -> TargetFrame
     ensures { result ≡ read_targets frame.now }
 {
-    sirad_read_targets::read_targets(frame)
+    TargetFrame::from(sirad_read_targets::read_targets(frame))
 }
 
 // The status of exactly one whole U frame, its accuracy in millimetres by an edition; else 5, then 32.
@@ -28,7 +28,7 @@ pub extern "C" fn vq_read_targets(frame: &[u8]) -> TargetFrame
 pub extern "C" fn vq_read_status(edition: u32, frame: &[u8]) -> StatusFrame
     ensures { result ≡ read_status edition frame.now }
 {
-    sirad_read::read_status(edition, frame)
+    StatusFrame::from(sirad_read::read_status(edition, frame))
 }
 
 // The flags of exactly one whole E frame; else 5.
@@ -36,5 +36,5 @@ pub extern "C" fn vq_read_status(edition: u32, frame: &[u8]) -> StatusFrame
 pub extern "C" fn vq_read_error(frame: &[u8]) -> ErrorFrame
     ensures { result ≡ read_error frame.now }
 {
-    sirad_read::read_error(frame)
+    ErrorFrame::from(sirad_read::read_error(frame))
 }

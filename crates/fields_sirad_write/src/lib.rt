@@ -7,7 +7,7 @@ ghost use Rattle.sirad_fields.specs.Fields.{data_refusal, data_bytes, targets_re
 ghost use Rattle.sirad_fields.specs.Fields.{status_numbers, status_refusal, status_bytes, error_refusal, error_bytes};
 
 use digits::Written;
-use sirad_fields::TargetFrame;
+use sirad_fields::{StatusValues, TargetFrame};
 
 // Writes a frame R, P or C (kinds 1 to 3) with these characters; 53, 52, 50, 51.
 #[unsafe(no_mangle)]
@@ -15,7 +15,7 @@ pub extern "C" fn vq_write_data(out: &mut [u8], kind: u32, content: &[u8]) -> Wr
     ensures { Writes (data_refusal kind content.now)
         (data_bytes kind content.now) out.old result out.new }
 {
-    sirad_write_data::write_data(out, kind, content)
+    Written::from(sirad_write_data::write_data(out, kind, content))
 }
 
 // Writes a T frame with the format, gain and targets of `frame`, whose refusal counts for nothing; 50, 51.
@@ -25,7 +25,7 @@ pub extern "C" fn vq_write_targets(out: &mut [u8], frame: TargetFrame) -> Writte
         (targets_bytes frame.format frame.gain frame.targets) out.old result out.new }
 {
     let targets = frame.targets;
-    sirad_targets::write_targets(out, frame.format, frame.gain, targets)
+    Written::from(sirad_targets::write_targets(out, frame.format, frame.gain, targets))
 }
 
 // Writes a U frame; 50, 51.
@@ -43,7 +43,16 @@ pub extern "C" fn vq_write_status(
     ensures { Writes (status_refusal (status_numbers format gain accuracy range ramp bandwidth time))
         (status_bytes (status_numbers format gain accuracy range ramp bandwidth time)) out.old result out.new }
 {
-    sirad_write::write_status(out, format, gain, accuracy, range, ramp, bandwidth, time)
+    let values = StatusValues {
+        format,
+        gain,
+        accuracy,
+        max_range: range,
+        ramp_time: ramp,
+        bandwidth,
+        time_difference: time,
+    };
+    Written::from(sirad_write::write_status(out, values))
 }
 
 // Writes an E frame; 51.
@@ -51,5 +60,5 @@ pub extern "C" fn vq_write_status(
 pub extern "C" fn vq_write_error(out: &mut [u8], flags: u16) -> Written
     ensures { Writes (error_refusal flags) (error_bytes flags) out.old result out.new }
 {
-    sirad_write::write_error(out, flags)
+    Written::from(sirad_write::write_error(out, flags))
 }

@@ -11,3 +11,4 @@ pub mod NumberLaws
 pub mod ReadingLaws
 pub mod WritingLaws
 pub mod FrameStores
+pub mod AnswerLaws

@@ -2,3 +2,4 @@ pub mod Values
 pub mod Frames
 pub mod Fields
 pub mod Internal
+pub mod Answers

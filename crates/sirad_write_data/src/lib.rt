@@ -1,72 +1,55 @@
 // The writer of SiRad's data frames, kinds 1 to 3, into a lent buffer (paper 01, "SiRad" and "Fields").
 #![tactic(auto)]
 
-ghost use Rattle.std.specs.Prelude.{◌≡◌, ◌+◌, ◌≤◌, length};
-ghost use Rattle.digits.specs.Stores.{Writes, stored};
-ghost use Rattle.sirad.specs.Rows.{characters};
+ghost use Rattle.std.specs.Prelude.{◌≡◌, ◌+◌, ◌≤◌, length, IfOk};
+ghost use Rattle.std.specs.List.{list_all};
+ghost use Rattle.refusals.specs.Numbers.{refusal_number};
+ghost use Rattle.digits.specs.Bytes.{is_character};
+ghost use Rattle.digits.specs.Stores.{Writes, written_of, stored};
 ghost use Rattle.sirad.specs.Table.{identifier};
-ghost use Rattle.sirad_fields.specs.Values.{fit};
 ghost use Rattle.sirad_fields.specs.Fields.{data_refusal, data_bytes};
+ghost use Rattle.sirad_fields.specs.Answers.{kind_number};
 
-use digits::Written;
-use sirad_fields::{DATA_START, NO_ENCODING};
-
-// Refusals (paper 01, "Refusal numbers").
-const TOO_MANY_CHARACTERS: u32 = 52;
-
-const UNKNOWN_KIND: u32 = 53;
+use refusals::Refusal;
+use sirad_fields::{DATA_START, DataKind};
 
 const MOST_CHARACTERS: usize = 65535;
 
 // The letter of a kind.
-fn identifier_of(kind: u32) -> u8
-    ensures { result ≡ identifier kind }
+fn identifier_of(kind: DataKind) -> u8
+    ensures { result ≡ identifier (kind_number kind) }
 {
     match kind {
-        1 => 82,
-        2 => 80,
-        3 => 67,
-        4 => 84,
-        5 => 85,
-        _ => 69,
+        DataKind::Range => b'R',
+        DataKind::Phase => b'P',
+        DataKind::Cfar => b'C',
     }
 }
 
 fn all_characters(content: &[u8]) -> bool
-    ensures { result ≡ fit (characters (length content.now)) content.now }
+    ensures { result ≡ list_all is_character content.now }
 {
-    let mut i: usize = 0;
-    while i < content.len() {
-        if digits::is_character(content[i]) {
-            i = i + 1;
-        } else {
-            return false;
-        }
-    }
-    true
+    content.iter().all(|b| digits::is_character(*b))
 }
 
-fn data_refusal(kind: u32, content: &[u8]) -> u32
-    ensures { result ≡ data_refusal kind content.now }
+// The kind of the data, where kind and characters can be written; else 53, 52, 50, in this order.
+fn check_data(kind: u32, content: &[u8]) -> Result<DataKind, Refusal>
+    ensures refusal { refusal_number result ≡ data_refusal kind content.now }
+    ensures kind { IfOk result (λ known. kind_number known ≡ kind) }
 {
-    if kind < sirad_judge::RANGE {
-        return UNKNOWN_KIND;
-    }
-    if sirad_judge::CFAR < kind {
-        return UNKNOWN_KIND;
-    }
-    if MOST_CHARACTERS < content.len() {
-        return TOO_MANY_CHARACTERS;
+    let known = DataKind::try_from(kind)?;
+    if content.len() > MOST_CHARACTERS {
+        return Err(Refusal::TooManyCharacters);
     }
     if all_characters(content) {
-        return 0;
+        return Ok(known);
     }
-    NO_ENCODING
+    Err(Refusal::NoEncoding)
 }
 
-fn put_data(out: &mut [u8], kind: u32, content: &[u8])
+fn put_data(out: &mut [u8], kind: DataKind, content: &[u8])
     requires { (length content.now ≤ 65535) × (16 + length content.now ≤ length out.old) }
-    ensures { out.new ≡ stored out.old 0 (data_bytes kind content.now) }
+    ensures { out.new ≡ stored out.old 0 (data_bytes (kind_number kind) content.now) }
 {
     let n = content.len();
     let id = identifier_of(kind);
@@ -79,16 +62,13 @@ fn put_data(out: &mut [u8], kind: u32, content: &[u8])
 
 // Writes a frame R, P or C (kinds 1 to 3) with these characters; refuses 53, 52, 50, 51, in this order.
 // `write_data(out, 1, b"Z")` writes the 17 bytes `!R000100000000Z` CR LF.
-pub fn write_data(out: &mut [u8], kind: u32, content: &[u8]) -> Written
+pub fn write_data(out: &mut [u8], kind: u32, content: &[u8]) -> Result<usize, Refusal>
     ensures { Writes (data_refusal kind content.now)
-        (data_bytes kind content.now) out.old result out.new }
+        (data_bytes kind content.now) out.old (written_of result) out.new }
 {
-    let unfit = data_refusal(kind, content);
+    let known = check_data(kind, content)?;
     let size = 16 + content.len();
-    let refusal = stores::refusal_of(unfit, size, out.len());
-    if refusal != 0 {
-        return Written { refusal, size: 0 };
-    }
-    put_data(out, kind, content);
-    Written { refusal: 0, size }
+    stores::check_room(size, out.len())?;
+    put_data(out, known, content);
+    Ok(size)
 }

@@ -1,30 +1,15 @@
--- Not judged whole, bytes left, kind 0, a kind over 3, or the size.
-use native.Mathlib.Omega.{arith}
-use Rattle.sirad_fields.proofs.ReadingLaws.{halted_kind, other_size, same_size, data_low, data_high, data_made}
+-- Not exactly one whole frame, one of no data, or its size.
+use Rattle.std.proofs.lemmas.Result.{err_from_is_err_and}
+use Rattle.sirad_fields.proofs.ReadingLaws.{data_unframed, data_other, data_made}
 use Rattle.sirad_read.proofs.read_data.Goals as goal
 
+pub returns-in_err-whole : goal.returns-in_err-whole
+returns-in_err-whole c =
+    let p = err_from_is_err_and c.from_residual.result c.from_residual.ensures.1 in
+    rw (p.1, p.2) (data_unframed _ c.whole_frame.ensures c.in_err-whole.was)
+
 pub returns-in_default : goal.returns-in_default
-returns-in_default c =
-    let kind = halted_kind _ c.judge.ensures.answers c.in_default.not-Whole in
-    data_low c.args.frame.now kind c.no_data.ensures (omega arith)
-
-pub returns-then-size-frame : goal.returns-then-size-frame
-returns-then-size-frame c =
-    let kind = other_size _ c.judge.ensures.answers c.in-Whole.is c.if-size-frame.true in
-    data_low c.args.frame.now kind c.no_data-then-size-frame.ensures (omega arith)
-
-pub returns-then-kind-lt-RANGE : goal.returns-then-kind-lt-RANGE
-returns-then-kind-lt-RANGE c =
-    let kind = same_size _ c.judge.ensures.answers c.in-Whole.is c.if-size-frame.false in
-    data_low c.args.frame.now kind c.no_data-then-kind-lt-RANGE.ensures c.if-kind-lt-RANGE.true
-
-pub returns-then-kind-gt-CFAR : goal.returns-then-kind-gt-CFAR
-returns-then-kind-gt-CFAR c =
-    let kind = same_size _ c.judge.ensures.answers c.in-Whole.is c.if-size-frame.false in
-    data_high c.args.frame.now kind c.no_data-then-kind-gt-CFAR.ensures c.if-kind-gt-CFAR.true
+returns-in_default c = data_other _ c.whole_frame.ensures c.in_ok-whole.was c.try_from.ensures c.in_default.is
 
 pub returns : goal.returns
-returns c =
-    let kind = same_size _ c.judge.ensures.answers c.in-Whole.is c.if-size-frame.false in
-    data_made c.in-Whole.kind _ c.args.frame.now kind (omega arith) (omega arith)
-    c.number_at-count.ensures
+returns c = data_made _ c.whole_frame.ensures c.in_ok-whole.was c.try_from.ensures c.in-Ok.is c.number_at-size.ensures
