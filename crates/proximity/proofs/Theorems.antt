@@ -345,7 +345,8 @@ module _ (edition d : ℕ) (bs : List ℕ) where
   answers_here w later index f = by_find (close_point edition d (frame_of bs w)) refl
     where
       by_find : (g : Option ℕ) → close_point edition d (frame_of bs w) ≡ g → or_later w.offset g later ≡ close_at w.offset index
-      by_find (Some i) e = ap (close_at w.offset) (first_once edition d (frame_of bs w) i index (point_first edition d (frame_of bs w) i e) f)
+      by_find (Some i) e =
+          ap (close_at w.offset) (first_once edition d (frame_of bs w) i index (point_first edition d (frame_of bs w) i e) f)
       by_find None e = absurd (point_none edition d (frame_of bs w) e index f.close)
 
   yes_behind : (before behind : List Row) (w : Row) (index : ℕ) → NobodyIn edition d bs before → FirstClose edition d (frame_of bs w) index
