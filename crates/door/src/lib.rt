@@ -17,5 +17,5 @@ pub extern "C" fn vq_anyone_close(
 ) -> Closeness
     ensures { result ≡ closeness dialect edition distance bytes.now }
 {
-    proximity_search::anyone_close(dialect, edition, distance, bytes)
+    Closeness::from(proximity_search::anyone_close(dialect, edition, distance, bytes))
 }

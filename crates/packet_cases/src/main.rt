@@ -5,59 +5,54 @@
 #![tactic(auto)]
 
 use case_input::{case_at, case_end};
-use packet::{PacketPoints, PacketRecord, PacketStep};
+use packet::{Cursor, PacketHeader, PacketRecord, PacketStep, Points, Record};
+use packet_reader::PacketReader;
+use refusals::Refusal;
 use std::io;
 use std::io::Read;
 
 // The most bytes of input that are read.
 const MOST_INPUT: u64 = 65536;
 
-fn field(rt: &impl Print, n: u64) -> io::Result<()> {
-    print!(rt; " {n}")
+fn print_step(rt: &impl Print, record: Result<Record, Refusal>, next: Cursor) -> io::Result<()> {
+    let step = PacketStep::new(record, next);
+    print!(rt;
+        " {} {} {} {} {}",
+        step.refusal, step.tag, step.start, step.length, next.at
+    )
 }
 
-fn print_step(rt: &impl Print, step: PacketStep) -> io::Result<()> {
-    let next = step.next;
-    field(rt, step.refusal as u64)?;
-    field(rt, step.tag as u64)?;
-    field(rt, step.start as u64)?;
-    field(rt, step.length as u64)?;
-    field(rt, next.at as u64)
+fn print_record(rt: &impl Print, record: Result<Record, Refusal>) -> io::Result<()> {
+    let shown = PacketRecord::from(record);
+    print!(rt;
+        " record {} {} {} {}",
+        shown.refusal, shown.tag, shown.start, shown.length
+    )
 }
 
-fn print_record(rt: &impl Print, shown: PacketRecord) -> io::Result<()> {
-    rt.print(" record")?;
-    field(rt, shown.refusal as u64)?;
-    field(rt, shown.tag as u64)?;
-    field(rt, shown.start as u64)?;
-    field(rt, shown.length as u64)
-}
-
-fn print_points(rt: &impl Print, found: PacketPoints) -> io::Result<()> {
-    rt.print(" points")?;
-    field(rt, found.refusal as u64)?;
-    field(rt, found.start as u64)?;
-    field(rt, found.count as u64)
+fn print_points(rt: &impl Print, points: Result<Points, Refusal>) -> io::Result<()> {
+    match points {
+        Ok(found) => print!(rt; " points 0 {} {}", found.start, found.count),
+        Err(refusal) => print!(rt; " points {} 0 0", refusal.number()),
+    }
 }
 
 fn read_kind(rt: &impl Print, kind: u32, s: &[u8]) -> io::Result<()> {
-    let header = packet_header::header(kind, s);
-    let first = packet_reader::first_step(kind, s);
-    rt.print("kind")?;
-    field(rt, kind as u64)?;
-    rt.print(" header")?;
-    field(rt, header.refusal as u64)?;
-    rt.print(" first")?;
-    print_step(rt, first)?;
+    let header = PacketHeader::from(packet_header::header(kind, s));
+    print!(rt; "kind {} header {} first", kind, header.refusal)?;
+    let mut reader = PacketReader::new(kind, s);
+    let first = reader.step();
+    let mut cursor = Cursor { at: reader.at };
+    print_step(rt, first, cursor)?;
     rt.print(" next")?;
-    print_step(rt, packet_fields::step(kind, s, first.next))?;
+    let next = packet_fields::step(kind, s, &mut cursor);
+    print_step(rt, next, cursor)?;
     print_record(rt, packet_fields::record(kind, s, 1))?;
     rt.print("\n")
 }
 
 fn read_one(rt: &impl Print, s: &[u8]) -> io::Result<()> {
-    rt.print("slice")?;
-    field(rt, s.len() as u64)?;
+    print!(rt; "slice {}", s.len())?;
     print_points(rt, packet_points::points(s))?;
     rt.print("\n")?;
     read_kind(rt, 16, s)?;

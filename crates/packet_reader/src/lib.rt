@@ -32,9 +32,7 @@ impl<'a> PacketReader<'a> {
 
     // The record at the reader's place, which stays.
     pub fn peek(&self) -> Result<Record, Refusal>
-        ensures {
-            packet_step_of result (cursor_behind self.now.at result) ≡ step_of self.now.kind self.now.bytes.now self.now.at
-        }
+        ensures { packet_step_of result (cursor_behind self.now.at result) ≡ step_of self.now.kind self.now.bytes.now self.now.at }
     {
         packet_fields::peek(self.kind, self.bytes, Cursor { at: self.at })
     }

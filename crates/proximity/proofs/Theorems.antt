@@ -16,7 +16,7 @@ use Rattle.mmwave.specs.declared.PacketDialect.TheVariants.{MmWave}
 use Rattle.std.specs.declared.option.Option.{Option}
 use Rattle.std.specs.declared.option.Option.TheVariants.{Some, None}
 use Rattle.packet.specs.declared.PacketPoint.{PacketPoint}
-use Rattle.packet.specs.Fields.{is_packet, point_record, points_of, point_of}
+use Rattle.packet.specs.Fields.{is_packet, point_record, points_of, points_count, point_of}
 use Rattle.packet.specs.Walk.{objects_of}
 use Rattle.reading.specs.declared.Row.{Row}
 use Rattle.reading.specs.Leftmost.{Leftmost}
@@ -206,7 +206,7 @@ module _ (edition d : ℕ) (bs : List ℕ) where
   not_close i f c = both_ways (close i) ((close_exactly d _).1 c) f
 
   -- no point is given from the count on
-  none_from_count : (i : ℕ) → (points_of bs).count ≤ i → CloseIn edition d bs i → ⊥
+  none_from_count : (i : ℕ) → points_count (points_of bs) ≤ i → CloseIn edition d bs i → ⊥
   unfolding points_of point_of
   none_from_count i l c = test (is_packet 16 bs) (λ y. by_record y (point_record bs) refl) (λ n. absurd (told_5 (rw n at c.given)))
     where
@@ -257,14 +257,14 @@ module _ (edition d : ℕ) (bs : List ℕ) where
 
   -- the first close point of a packet is its first
   point_first : (j : ℕ) → close_point edition d bs ≡ Some j → FirstClose edition d bs j
-  point_first j h = let f = from_found (points_of bs).count 0 j h in record { close = f.1; before = λ k l. f.2 k (omega arith) l }
+  point_first j h = let f = from_found (points_count (points_of bs)) 0 j h in record { close = f.1; before = λ k l. f.2 k (omega arith) l }
 
   -- where it has none, none is close
   point_none : close_point edition d bs ≡ None → NoneClose edition d bs
-  point_none h i c = by_index (dec_lt i (points_of bs).count)
+  point_none h i c = by_index (dec_lt i (points_count (points_of bs)))
     where
-      by_index : Dec (i < (points_of bs).count) → ⊥
-      by_index (yes l) = from_missing (points_of bs).count 0 h i (omega arith) (omega arith) c
+      by_index : Dec (i < points_count (points_of bs)) → ⊥
+      by_index (yes l) = from_missing (points_count (points_of bs)) 0 h i (omega arith) (omega arith) c
       by_index (no l) = none_from_count i (omega arith) c
 
   -- there is one first
@@ -345,7 +345,8 @@ module _ (edition d : ℕ) (bs : List ℕ) where
   answers_here w later index f = by_find (close_point edition d (frame_of bs w)) refl
     where
       by_find : (g : Option ℕ) → close_point edition d (frame_of bs w) ≡ g → or_later w.offset g later ≡ close_at w.offset index
-      by_find (Some i) e = ap (close_at w.offset) (first_once edition d (frame_of bs w) i index (point_first edition d (frame_of bs w) i e) f)
+      by_find (Some i) e =
+          ap (close_at w.offset) (first_once edition d (frame_of bs w) i index (point_first edition d (frame_of bs w) i e) f)
       by_find None e = absurd (point_none edition d (frame_of bs w) e index f.close)
 
   yes_behind : (before behind : List Row) (w : Row) (index : ℕ) → NobodyIn edition d bs before → FirstClose edition d (frame_of bs w) index

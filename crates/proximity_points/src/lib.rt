@@ -32,14 +32,12 @@ pub fn first_close(points: &[u8], limit: u32) -> Option<usize>
     ensures { result ≡ first_within limit points.now (length points.now / 16) 0 }
 {
     let count = points.len() / POINT_SIZE;
-    let mut i: usize = 0;
-    while i < count {
+    for i in 0..count {
         let from = POINT_SIZE * i;
         let to = from + POINT_SIZE;
         if is_close(&points[from..to], limit) {
             return Some(i);
         }
-        i = i + 1;
     }
     None
 }
