@@ -2,8 +2,10 @@
 #![tactic(auto)]
 
 ghost use Rattle.std.specs.Prelude.{◌≡◌};
-ghost use Rattle.form.specs.Numbers.{numbers_of, judgement_of, Judges};
+ghost use Rattle.form.specs.Numbers.{numbers_of, answer_numbers, judgement_of, Judges};
 ghost use Rattle.form.specs.Pieces.{any, always, four, free, frees};
+
+use refusals::Refusal;
 
 // Paper 01, "Judging a place".
 #[derive(Clone, Copy)]
@@ -86,6 +88,23 @@ pub fn numbers_of(j: Judgement) -> JudgementNumbers
             reason: 0,
             length: 0,
         },
+    }
+}
+
+impl From<Result<Judgement, Refusal>> for JudgementNumbers {
+    ghost from_gives = { λ r n. n ≡ answer_numbers r };
+
+    fn from(answer: Result<Judgement, Refusal>) -> JudgementNumbers {
+        match answer {
+            Ok(j) => numbers_of(j),
+            Err(refusal) => JudgementNumbers {
+                refusal: refusal.number(),
+                state: 0,
+                kind: 0,
+                reason: 0,
+                length: 0,
+            },
+        }
     }
 }
 

@@ -8,6 +8,7 @@ ghost use Rattle.listing.specs.Listing.{listed, listing};
 use capture::Dialect;
 use digits::Written;
 use listing_table::{OUTPUT_TOO_SHORT, write_table};
+use reading::Answer;
 
 // The most bytes of input that are listed.
 pub const MAX_INPUT: usize = 65536;
@@ -46,7 +47,7 @@ fn write_listed(bytes: &[u8], out: &mut [u8], d: Dialect) -> Written
 {
     let mut table = row_table();
     let number = capture_judge::number_of(d);
-    let a = capture_read::closed_reading(number, bytes, &mut table);
+    let a = Answer::from(capture_read::closed_reading(number, bytes, &mut table));
     let size = bytes.len() as u32;
     let skipped = a.skipped as u32;
     write_table(out, &table, a.rows, size, skipped)
