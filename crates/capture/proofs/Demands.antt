@@ -62,10 +62,12 @@ use Rattle.capture.specs.Entries.{max_bytes, verdict, verdict_numbers, read_answ
 use Rattle.capture.specs.Feeding.{in_call, call_reading, rest_of, feed_answer}
 use Rattle.capture.specs.Lines.{closed_rows, empty_part, chosen, part_of}
 use Rattle.std.specs.declared.option.Option.TheVariants.{Some, None}
+use Rattle.refusals.specs.declared.Refusal.{Refusal}
+use Rattle.refusals.specs.declared.Refusal.TheVariants.{UnknownDialect}
 use Rattle.capture.specs.declared.Dialect.{Dialect}
 use Rattle.capture.specs.declared.Dialect.TheVariants.{Sirad, Packets}
-use Rattle.capture.specs.declared.Verdict.{Verdict}
-use Rattle.capture.specs.declared.Verdict.TheVariants.{Refused, Judged}
+use Rattle.std.specs.declared.result.Result.{Result}
+use Rattle.std.specs.declared.result.Result.TheVariants.{Ok, Err}
 use Rattle.capture.proofs.EntryLaws.{unknown_refused, verdict_long, verdict_beyond, verdict_judged}
 use Rattle.capture.proofs.LineLaws.{unknown_part, main_long, standby_long, both_short}
 use Rattle.capture.proofs.FeedLaws.{exactly_62, exactly_3, exactly_61, exactly_60, exactly_0, never_1}
@@ -76,15 +78,15 @@ use Rattle.capture.proofs.Wires.{lawful_of, no_start, dialect_none, waiting_shor
 
 -- within the limits the entry gives the judgement
 judged_is : (d : Dialect) (bs : List ℕ) (at : ℕ) → length bs ≤ max_bytes → at ≤ length bs
-    → judged_at d bs at ≡ Judged (judge_of d (drop at bs))
+    → judged_at d bs at ≡ Ok (judge_of d (drop at bs))
 judged_is d bs at l h = sym (verdict_judged d bs at (judge_of d (drop at bs)) l h refl)
 
 -- the entry says a judgement exactly if it is the judgement
 judged_exactly : (d : Dialect) (bs : List ℕ) (at : ℕ) (j : Judgement) → length bs ≤ max_bytes → at ≤ length bs
-    → (judged_at d bs at ≡ Judged j) ↔ (judge_of d (drop at bs) ≡ j)
+    → (judged_at d bs at ≡ Ok j) ↔ (judge_of d (drop at bs) ≡ j)
 judged_exactly d bs at j l h = (
-  (λ e. let q : Judged (judge_of d (drop at bs)) ≡ Judged j = sym (judged_is d bs at l h) ∙ e in cc),
-  (λ e. judged_is d bs at l h ∙ ap Judged e),
+  (λ e. let q : Ok (judge_of d (drop at bs)) ≡ Ok j = sym (judged_is d bs at l h) ∙ e in cc),
+  (λ e. judged_is d bs at l h ∙ ap Ok e),
 )
 
 -- the frames that stand are those that are judged whole
@@ -206,7 +208,7 @@ full_is_final d A B l table s =
 
 -- a judgement that is not waiting is said again of more bytes
 said_again : (d : Dialect) (A B : List ℕ) (at : ℕ) (j : Judgement) → length (A ++ B) ≤ max_bytes → at ≤ length A → (j ≡ Waiting → ⊥)
-    → judged_at d A at ≡ Judged j → judged_at d (A ++ B) at ≡ Judged j
+    → judged_at d A at ≡ Ok j → judged_at d (A ++ B) at ≡ Ok j
 said_again d A B at j l h settled q =
     let n = length-append A B in
     let e : judge_of d (drop at A) ≡ j = (judged_exactly d A at j (first_within_lem A B l) h).0 q in
@@ -254,7 +256,7 @@ asked_is (suc (suc (suc n))) h = absurd (omega arith)
 asked_none : (number : ℕ) → 3 ≤ number → dialect_of number ≡ None
 asked_none number h = sym (dialect_none number (λ e. omega arith) (λ e. omega arith) (λ e. omega arith))
 
-not_refused : (j : Judgement) → (verdict_numbers (Judged j)).refusal ≡ 0
+not_refused : (j : Judgement) → (verdict_numbers (Ok j)).refusal ≡ 0
 not_refused (Whole k n) = refl
 not_refused (Bad r) = refl
 not_refused Waiting = refl
@@ -263,7 +265,8 @@ verdict_refuses : (d : Dialect) (bs : List ℕ) (at : ℕ)
     → ((verdict_numbers (verdict (Some d) bs at)).refusal ≡ 0) ↔ ((length bs ≤ max_bytes) × (at ≤ length bs))
 verdict_refuses d bs at = (
   there (dec_lt max_bytes (length bs)) (dec_lt (length bs) at),
-  λ h. ap (λ (v : Verdict). (verdict_numbers v).refusal) (judged_is d bs at h.0 h.1) ∙ not_refused (judge_of d (drop at bs)),
+  λ h. ap (λ (v : Result Judgement Refusal). (verdict_numbers v).refusal) (judged_is d bs at h.0 h.1)
+      ∙ not_refused (judge_of d (drop at bs)),
 )
   where
     there : Dec (max_bytes < length bs) → Dec (length bs < at) → (verdict_numbers (verdict (Some d) bs at)).refusal ≡ 0
@@ -282,7 +285,8 @@ judgement_refuses_only number bs at = by_number (dec_lt number 3)
         let v = verdict_refuses k.0 bs at in
         ((λ h. let g = v.0 (rw k.1 at h) in (l, g.0, g.1)), (λ h. rw k.1 (v.1 (h.1, h.2))))
     by_number (no l) =
-        let u : verdict (dialect_of number) bs at ≡ Refused 1 = rw (asked_none number (omega arith)) (sym (unknown_refused bs at)) in
+        let u : verdict (dialect_of number) bs at ≡ Err UnknownDialect =
+            rw (asked_none number (omega arith)) (sym (unknown_refused bs at)) in
         ((λ h. let z : ◌≡◌ {A = ℕ} 1 0 = rw u at h in absurd (omega arith)), (λ h. absurd (l h.0)))
 
 reading_refuses : (d : Dialect) (closed : Bool) (bs : List ℕ) (room : ℕ)

@@ -1,7 +1,7 @@
 -- Laws for the choice between two lines. The first row of a closed reading is the same for every table with room for a row, so one of
 -- three numbers is enough.
 use mathlib.Core.Bool.{Bool, true, false, cond}
-use mathlib.Core.Path.{◌≡◌, refl, sym, ap, subst, ◌∙◌}
+use mathlib.Core.Path.{◌≡◌, refl, ap, subst, ◌∙◌}
 use mathlib.Core.List.{List, [], ◌∷◌}
 use Prim.Native.Nat.{ℕ, ◌+◌, ◌-◌, ◌<◌, ◌≤◌}
 use native.Mathlib.Omega.{arith}
@@ -37,11 +37,16 @@ pub closed_rows_stand : (d : Dialect) (bs : List ℕ) → RowsStand (judge_of d)
 unfolding closed_rows
 closed_rows_stand d bs = rows_stand (judge_of d) (lawful_of d) true bs (length bs)
 
+-- the first of the rows; zeros where there is none
+abbrev pub row_or_zeros : List Row → Row
+row_or_zeros [] = record { offset = 0; size = 0; kind = 0 }
+row_or_zeros (w ∷ ws) = w
+
 -- a table of three zeros at exit of the closed reading is the first row, or zeros
 pub first_stored : (d : Dialect) (number : ℕ) (bs : List ℕ) (r : Answer) (after : List ℕ) → number ≡ dialect_number d
     → length bs ≤ max_bytes
     → Reads number true bs (0 ∷ 0 ∷ 0 ∷ []) r after
-    → record { offset = get_or after 0 0; size = get_or after 1 0; kind = get_or after 2 0 } ≡ first_row (closed_rows d bs)
+    → record { offset = get_or after 0 0; size = get_or after 1 0; kind = get_or after 2 0 } ≡ row_or_zeros (closed_rows d bs)
 unfolding read_leaves stored flat
 first_stored d number bs r after n l g =
     let k : dialect_of number ≡ Some d = ap dialect_of n ∙ number_names d in
@@ -50,34 +55,46 @@ first_stored d number bs r after n l g =
     by_rows (closed_rows d bs) (s ∙ ap (λ (ws : List Row). stored (0 ∷ 0 ∷ 0 ∷ []) 0 (flat ws)) (closed_rows_first d bs 1))
   where
     by_rows : (ws : List Row) → after ≡ stored (0 ∷ 0 ∷ 0 ∷ []) 0 (flat (take 1 ws))
-        → record { offset = get_or after 0 0; size = get_or after 1 0; kind = get_or after 2 0 } ≡ first_row ws
+        → record { offset = get_or after 0 0; size = get_or after 1 0; kind = get_or after 2 0 } ≡ row_or_zeros ws
     by_rows [] e = rw e
     by_rows (w ∷ ws) e = rw e
 
--- -- The choice, by the sizes of the two first rows: 0 exactly if there is no row
+-- -- The first row of a line, by the size of what the table holds: no frame is empty
 
-first_of_none : (w : Row) → w ≡ first_row [] → w.size ≡ 0
-first_of_none w e = ap (λ (v : Row). v.size) e
+module _ (d : Dialect) (bs : List ℕ) (w : Row) (e : w ≡ row_or_zeros (closed_rows d bs)) where
+  pub first_some : (w.size ≡ 0 → ⊥) → Some w ≡ first_row (closed_rows d bs)
+  first_some h = by_rows (closed_rows d bs) e
+    where
+      by_rows : (ws : List Row) → w ≡ row_or_zeros ws → Some w ≡ first_row ws
+      by_rows [] z = absurd (h (ap (λ (v : Row). v.size) z))
+      by_rows (v ∷ ws) z = ap Some z
 
-no_row : (judge : List ℕ → Judgement) (bs : List ℕ) (ws : List Row) (w : Row) → RowsStand judge bs ws → w ≡ first_row ws → w.size ≡ 0
-    → ws ≡ []
-unfolding RowsStand
-no_row judge bs [] w s e z = refl
-no_row judge bs (v ∷ ws) w s e z = let p = s.0.1 in let q : w.size ≡ v.size = ap (λ (v : Row). v.size) e in absurd (omega arith)
+  pub first_none : w.size ≡ 0 → None ≡ first_row (closed_rows d bs)
+  unfolding RowsStand
+  first_none h = by_rows (closed_rows d bs) (closed_rows_stand d bs) e
+    where
+      by_rows : (ws : List Row) → RowsStand (judge_of d) bs ws → w ≡ row_or_zeros ws → None ≡ first_row ws
+      by_rows [] s z = refl
+      by_rows (v ∷ ws) s z = let p = s.0.1 in let q : w.size ≡ v.size = ap (λ (v : Row). v.size) z in absurd (omega arith)
 
-chosen_main : (ms ss : List Row) (w : Row) → w ≡ first_row ms → (w.size ≡ 0 → ⊥) → row_part false w ≡ chosen ms ss
+-- -- The choice, by the two first rows
+
+chosen_main : (ms ss : List Row) (w : Row) → Some w ≡ first_row ms → row_part false w ≡ chosen ms ss
 unfolding chosen
-chosen_main [] ss w e h = absurd (h (first_of_none w e))
-chosen_main (m ∷ ms) ss w e h = ap (row_part false) e
+chosen_main [] ss w e = let z : ◌≡◌ {A = ℕ} 0 1 = cc in absurd (omega arith)
+chosen_main (m ∷ ms) ss w e = let q : w ≡ m = cc in ap (row_part false) q
 
-chosen_standby : (ss : List Row) (w : Row) → w ≡ first_row ss → (w.size ≡ 0 → ⊥) → row_part true w ≡ chosen [] ss
+chosen_standby : (ms ss : List Row) (w : Row) → None ≡ first_row ms → Some w ≡ first_row ss → row_part true w ≡ chosen ms ss
 unfolding chosen
-chosen_standby [] w e h = absurd (h (first_of_none w e))
-chosen_standby (s ∷ ss) w e h = ap (row_part true) e
+chosen_standby (m ∷ ms) ss w n e = let z : ◌≡◌ {A = ℕ} 0 1 = cc in absurd (omega arith)
+chosen_standby [] [] w n e = let z : ◌≡◌ {A = ℕ} 0 1 = cc in absurd (omega arith)
+chosen_standby [] (s ∷ ss) w n e = let q : w ≡ s = cc in ap (row_part true) q
 
-chosen_none : empty_part ≡ chosen [] []
+chosen_none : (ms ss : List Row) → None ≡ first_row ms → None ≡ first_row ss → empty_part ≡ chosen ms ss
 unfolding chosen
-chosen_none = refl
+chosen_none (m ∷ ms) ss n o = let z : ◌≡◌ {A = ℕ} 0 1 = cc in absurd (omega arith)
+chosen_none [] (s ∷ ss) n o = let z : ◌≡◌ {A = ℕ} 0 1 = cc in absurd (omega arith)
+chosen_none [] [] n o = refl
 
 module _ (d : Dialect) (main standby : List ℕ) where
   pub main_long : max_bytes < length main → empty_part ≡ part_of (Some d) main standby
@@ -94,24 +111,17 @@ module _ (d : Dialect) (main standby : List ℕ) where
   unfolding part_of
   both_short m s = rw (le-ltb max_bytes (length main) m, le-ltb max_bytes (length standby) s)
 
-  pub main_first : (w : Row) → length main ≤ max_bytes → length standby ≤ max_bytes → w ≡ first_row (closed_rows d main) → (w.size ≡ 0 → ⊥)
+  pub main_first : (w : Row) → length main ≤ max_bytes → length standby ≤ max_bytes → Some w ≡ first_row (closed_rows d main)
       → row_part false w ≡ part_of (Some d) main standby
-  main_first w m s e h = chosen_main (closed_rows d main) (closed_rows d standby) w e h ∙ both_short m s
+  main_first w m s e = chosen_main (closed_rows d main) (closed_rows d standby) w e ∙ both_short m s
 
-  pub standby_first : (w v : Row) → length main ≤ max_bytes → length standby ≤ max_bytes → w ≡ first_row (closed_rows d main) → w.size ≡ 0
-      → v ≡ first_row (closed_rows d standby) → (v.size ≡ 0 → ⊥)
-      → row_part true v ≡ part_of (Some d) main standby
-  standby_first w v m s e z f h =
-      let n = no_row (judge_of d) main (closed_rows d main) w (closed_rows_stand d main) e z in
-      chosen_standby (closed_rows d standby) v f h ∙ ap (λ (ms : List Row). chosen ms (closed_rows d standby)) (sym n) ∙ both_short m s
+  pub standby_first : (w : Row) → length main ≤ max_bytes → length standby ≤ max_bytes → None ≡ first_row (closed_rows d main)
+      → Some w ≡ first_row (closed_rows d standby) → row_part true w ≡ part_of (Some d) main standby
+  standby_first w m s n e = chosen_standby (closed_rows d main) (closed_rows d standby) w n e ∙ both_short m s
 
-  pub neither_first : (w v : Row) → length main ≤ max_bytes → length standby ≤ max_bytes → w ≡ first_row (closed_rows d main) → w.size ≡ 0
-      → v ≡ first_row (closed_rows d standby) → v.size ≡ 0
-      → empty_part ≡ part_of (Some d) main standby
-  neither_first w v m s e z f y =
-      let n = no_row (judge_of d) main (closed_rows d main) w (closed_rows_stand d main) e z in
-      let o = no_row (judge_of d) standby (closed_rows d standby) v (closed_rows_stand d standby) f y in
-      chosen_none ∙ (λ i. chosen (sym n i) (sym o i)) ∙ both_short m s
+  pub neither_first : length main ≤ max_bytes → length standby ≤ max_bytes → None ≡ first_row (closed_rows d main)
+      → None ≡ first_row (closed_rows d standby) → empty_part ≡ part_of (Some d) main standby
+  neither_first m s n o = chosen_none (closed_rows d main) (closed_rows d standby) n o ∙ both_short m s
 
 pub unknown_part : (main standby : List ℕ) → empty_part ≡ part_of None main standby
 unfolding part_of

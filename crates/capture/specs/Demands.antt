@@ -10,6 +10,7 @@ use Rattle.std.specs.Prelude.{pos, length, drop, Ok}
 use Rattle.digits.specs.Bytes.{Bytes}
 use Rattle.digits.specs.LittleEndian.{little_at}
 use Rattle.form.specs.Form.{Frame, Stands, Completable}
+use Rattle.form.specs.declared.Judgement.{Judgement}
 use Rattle.form.specs.declared.Judgement.TheVariants.{Whole, Bad, Waiting}
 use Rattle.reading.specs.Answers.{answered, room_in}
 use Rattle.reading.specs.Begins.{Begins}
@@ -36,12 +37,13 @@ use Rattle.capture.specs.Lines.{row_part, empty_part, part_of}
 use Rattle.capture.specs.Runs.{Run, AsOne}
 use Rattle.std.specs.declared.option.Option.{Option}
 use Rattle.std.specs.declared.option.Option.TheVariants.{Some}
+use Rattle.refusals.specs.declared.Refusal.{Refusal}
 use Rattle.capture.specs.declared.Dialect.{Dialect}
 use Rattle.capture.specs.declared.Dialect.TheVariants.{Sirad, Packets}
 use Rattle.capture.specs.declared.Fed.{Fed}
 use Rattle.capture.specs.declared.Stream.{Stream}
-use Rattle.capture.specs.declared.Verdict.{Verdict}
-use Rattle.capture.specs.declared.Verdict.TheVariants.{Judged}
+use Rattle.std.specs.declared.result.Result.{Result}
+use Rattle.std.specs.declared.result.Result.TheVariants.{Ok}
 
 -- -- Words
 
@@ -50,7 +52,7 @@ abbrev pub StandsIn : Dialect → List ℕ → Standing
 StandsIn d bs at kind size = Stands (form_of d) kind size (drop at bs)
 
 -- what the judgement says at an offset
-abbrev pub judged_at : Dialect → List ℕ → ℕ → Verdict
+abbrev pub judged_at : Dialect → List ℕ → ℕ → Result Judgement Refusal
 judged_at d bs at = verdict (Some d) bs at
 
 -- the open reading, with room for so many rows
@@ -136,7 +138,7 @@ VitalRepeats = (bs : List ℕ) → judge_of (Packets VitalSigns) bs ≡ Bad 25 �
 abbrev pub WholeExactlyIfStands : Type 0
 WholeExactlyIfStands =
     (d : Dialect) (bs : List ℕ) → length bs ≤ max_bytes → (at : ℕ) → at ≤ length bs → (kind size : ℕ)
-    → (judged_at d bs at ≡ Judged (Whole kind size)) ↔ StandsIn d bs at kind size
+    → (judged_at d bs at ≡ Ok (Whole kind size)) ↔ StandsIn d bs at kind size
 
 -- at most one frame stands at a place
 abbrev pub OneStands : Type 0
@@ -266,25 +268,25 @@ ClosedResumes =
 abbrev pub JudgedAlike : Type 0
 JudgedAlike =
     (d : Dialect) (A B : List ℕ) → length (A ++ B) ≤ max_bytes → (at : ℕ) → at ≤ length A
-    → ((kind size : ℕ) → judged_at d A at ≡ Judged (Whole kind size) → judged_at d (A ++ B) at ≡ Judged (Whole kind size))
-    × ((reason : ℕ) → judged_at d A at ≡ Judged (Bad reason) → judged_at d (A ++ B) at ≡ Judged (Bad reason))
+    → ((kind size : ℕ) → judged_at d A at ≡ Ok (Whole kind size) → judged_at d (A ++ B) at ≡ Ok (Whole kind size))
+    × ((reason : ℕ) → judged_at d A at ≡ Ok (Bad reason) → judged_at d (A ++ B) at ≡ Ok (Bad reason))
 
 -- at every place of A, the end included, the reader waits exactly when no frame stands there yet and some further bytes would complete
 -- one; for packets, at each place from which A doesn't end inside a four-byte field
 abbrev pub WaitsExactly : Type 0
 WaitsExactly =
     (d : Dialect) (A : List ℕ) → Bytes A → length A ≤ max_bytes → (at : ℕ) → at ≤ length A → (EndsInsideField d (drop at A) → ⊥)
-    → (judged_at d A at ≡ Judged Waiting) ↔ Completable (form_of d) (drop at A)
+    → (judged_at d A at ≡ Ok Waiting) ↔ Completable (form_of d) (drop at A)
 
 -- where A ends inside a four-byte field the judgement is waiting
 abbrev pub InsideWaits : Type 0
 InsideWaits =
     (d : Dialect) (A : List ℕ) → length A ≤ max_bytes → (at : ℕ) → at ≤ length A → EndsInsideField d (drop at A)
-    → judged_at d A at ≡ Judged Waiting
+    → judged_at d A at ≡ Ok Waiting
 
 -- the place at the very end is waiting
 abbrev pub EndWaits : Type 0
-EndWaits = (d : Dialect) (A : List ℕ) → length A ≤ max_bytes → judged_at d A (length A) ≡ Judged Waiting
+EndWaits = (d : Dialect) (A : List ℕ) → length A ≤ max_bytes → judged_at d A (length A) ≡ Ok Waiting
 
 -- -- Two lines (paper 01, "Two lines")
 

@@ -14,10 +14,10 @@ use Rattle.capture.specs.declared.Part.{Part}
 unfoldable pub closed_rows : Dialect → List ℕ → List Row
 closed_rows d bs = (reading (judge_of d) true (length bs) bs).rows
 
--- the first of the rows; zeros where there is none
-abbrev pub first_row : List Row → Row
-first_row [] = record { offset = 0; size = 0; kind = 0 }
-first_row (w ∷ ws) = w
+-- the first of the rows, where there is one
+abbrev pub first_row : List Row → Option Row
+first_row [] = None
+first_row (w ∷ ws) = Some w
 
 -- the part of a line that is a row's frame
 abbrev pub row_part : Bool → Row → Part

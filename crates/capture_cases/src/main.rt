@@ -11,68 +11,48 @@ use std::io::Read;
 // The most bytes of input that are read.
 const MOST_INPUT: u64 = 65536;
 
-fn field(rt: &impl Print, n: u64) -> io::Result<()> {
-    print!(rt; " {n}")
-}
-
 fn mixed(sum: u64, b: u8) -> u64 {
     (sum % 16777213 * 241 + b as u64) % 16777213
 }
 
 fn checksum(bytes: &[u8]) -> u64 {
-    let mut sum: u64 = 0;
-    let mut i: usize = 0;
-    while i < bytes.len() {
-        sum = mixed(sum, bytes[i]);
-        i = i + 1;
-    }
-    sum
+    bytes.iter().fold(0, |sum, b| mixed(sum, *b))
 }
 
 fn print_part(rt: &impl Print, p: Part, line: &[u8]) -> io::Result<()> {
-    rt.print(" |")?;
-    field(rt, p.standby as u64)?;
-    field(rt, p.offset as u64)?;
-    field(rt, p.size as u64)?;
-    field(rt, line.len() as u64)?;
-    field(rt, checksum(line))?;
-    rt.print("\n")
+    let standby = p.standby as u64;
+    let offset = p.offset;
+    let size = p.size;
+    let lent = line.len();
+    let sum = checksum(line);
+    print!(rt; " | {standby} {offset} {size} {lent} {sum}\n")
 }
 
 fn choose_all(rt: &impl Print, dialect: u32, bytes: &[u8]) -> io::Result<()> {
-    let mut k: usize = 0;
-    while k <= bytes.len() {
+    for k in 0..=bytes.len() {
         let main = &bytes[..k];
         let standby = &bytes[k..];
-        rt.print("split")?;
-        field(rt, k as u64)?;
+        print!(rt; "split {k}")?;
         print_part(
             rt,
             choose_part(dialect, main, standby),
             choose_line(dialect, main, standby),
         )?;
-        k = k + 1;
     }
     Ok(())
 }
 
 fn case(rt: &impl Print, dialect: u8, bytes: &[u8]) -> io::Result<()> {
-    rt.print("capture")?;
-    field(rt, dialect as u64)?;
-    field(rt, bytes.len() as u64)?;
-    rt.print("\n")?;
+    let size = bytes.len();
+    print!(rt; "capture {dialect} {size}\n")?;
     choose_all(rt, dialect as u32, bytes)
-}
-
-fn size_of(low: u8, high: u8) -> usize {
-    low as usize + 256 * (high as usize)
 }
 
 fn cases(rt: &impl Print, input: &[u8]) -> io::Result<()> {
     let mut at: usize = 0;
     while 3 <= input.len() - at {
         let from = at + 3;
-        let size = size_of(input[at + 1], input[at + 2]);
+        let size = u16::from_le_bytes([input[at + 1], input[at + 2]]) as usize;
         if input.len() - from < size {
             return Ok(());
         }

@@ -2,44 +2,26 @@
 #![tactic(auto)]
 
 ghost use Rattle.std.specs.Prelude.{◌≡◌};
-ghost use Rattle.capture.specs.Dialects.{dialect_of, packet_number, dialect_number, start_of};
+ghost use Rattle.capture.specs.Dialects.{dialect_of, dialect_number, start_of};
 
 use capture::Dialect;
-use mmwave::PacketDialect;
 
-// The dialect that a number asks for.
+// The dialect that a number asks for, where it asks for one.
 pub fn dialect_of(number: u32) -> Option<Dialect>
     ensures { result ≡ dialect_of number }
 {
-    match number {
-        0 => Some(Dialect::Sirad),
-        1 => Some(Dialect::Packets(PacketDialect::MmWave)),
-        2 => Some(Dialect::Packets(PacketDialect::VitalSigns)),
-        _ => None,
-    }
-}
-
-// The number of a packet dialect.
-fn packet_number(d: PacketDialect) -> u32
-    ensures { result ≡ packet_number d }
-{
-    match d {
-        PacketDialect::MmWave => 1,
-        PacketDialect::VitalSigns => 2,
-    }
+    Dialect::try_from(number).ok()
 }
 
 // The number of a dialect.
 pub fn number_of(d: Dialect) -> u32
     ensures { result ≡ dialect_number d }
 {
-    match d {
-        Dialect::Sirad => 0,
-        Dialect::Packets(p) => packet_number(p),
-    }
+    u32::from(d)
 }
 
 // The byte with which every frame of a dialect starts.
+#[tactic(auto, unfolding(capture::specs::Dialects::start_of))]
 pub fn start_byte(d: Dialect) -> u8
     ensures { result ≡ start_of d }
 {

@@ -6,17 +6,16 @@ ghost use Rattle.capture.specs.Dialects.{form_of, judge_of};
 ghost use Rattle.form.specs.Numbers.{Judges};
 ghost use Rattle.capture.specs.Entries.{max_bytes, verdict, JudgesAt};
 
-use capture::{Dialect, Verdict};
+use capture::Dialect;
 pub use capture_dialects::{dialect_of, number_of, start_byte};
 use form::Judgement;
+use refusals::Refusal;
 
 // The most bytes that are read at once.
 pub const MAX_BYTES: usize = 1048576;
 
 // The refusals of this crate (paper 01, "Refusal numbers").
 pub const UNKNOWN_DIALECT: u32 = 1;
-
-pub const BEYOND_END: u32 = 2;
 
 pub const TOO_MANY_BYTES: u32 = 3;
 
@@ -35,6 +34,7 @@ pub fn too_long(offset: usize, front: usize, back: usize) -> bool
     left - front < back
 }
 
+#[tactic(auto, unfolding(capture::specs::Dialects::form_of))]
 fn judge_part(bytes: &[u8], d: Dialect) -> Judgement
     ensures { result ≡ judge_of d bytes.now }
 {
@@ -54,27 +54,24 @@ pub fn judge_from(bytes: &[u8], at: usize, d: Dialect) -> Judgement
     judge_part(&bytes[at..], d)
 }
 
-fn judge_known(bytes: &[u8], at: usize, d: Dialect) -> Verdict
+#[tactic(auto, unfolding(capture::specs::Entries::verdict))]
+fn judge_known(bytes: &[u8], at: usize, d: Dialect) -> Result<Judgement, Refusal>
     ensures { result ≡ verdict (Some d) bytes.now at }
 {
-    let size = bytes.len();
-    if MAX_BYTES < size {
-        return Verdict::Refused(TOO_MANY_BYTES);
+    if MAX_BYTES < bytes.len() {
+        return Err(Refusal::TooManyBytes);
     }
-    if size < at {
-        return Verdict::Refused(BEYOND_END);
+    if bytes.len() < at {
+        return Err(Refusal::BeyondEnd);
     }
-    let j = judge_from(bytes, at, d);
-    Verdict::Judged(j)
+    Ok(judge_from(bytes, at, d))
 }
 
-// The judgement of the bytes from `offset` on: `judge_at(0, b"!E0000\r\n", 0)` is Judged(Whole(6, 8)), at 1 it is Judged(Bad(10)), at 8
-// Judged(Waiting), at 9 Refused(2).
-pub fn judge_at(dialect: u32, bytes: &[u8], offset: usize) -> Verdict
+// The judgement of the bytes from `offset` on: `judge_at(0, b"!E0000\r\n", 0)` is Ok(Whole(6, 8)), at 1 it is Ok(Bad(10)), at 8
+// Ok(Waiting), at 9 Err(BeyondEnd).
+pub fn judge_at(dialect: u32, bytes: &[u8], offset: usize) -> Result<Judgement, Refusal>
     ensures { JudgesAt dialect bytes.now offset result }
 {
-    match dialect_of(dialect) {
-        Some(d) => judge_known(bytes, offset, d),
-        None => Verdict::Refused(UNKNOWN_DIALECT),
-    }
+    let d = Dialect::try_from(dialect)?;
+    judge_known(bytes, offset, d)
 }

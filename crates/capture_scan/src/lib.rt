@@ -10,11 +10,9 @@ fn misses(bytes: &[u8], from: usize, n: usize, mark: u8) -> bool
     ensures { result ≡ clear_for mark from n bytes.now }
 {
     let mut ok = true;
-    let mut i: usize = 0;
-    while i < n {
+    for i in 0..n {
         let t = bytes[from + i] != mark;
         ok = digits::both(ok, t);
-        i = i + 1;
     }
     ok
 }
@@ -37,14 +35,12 @@ fn few(bytes: &[u8], from: usize, n: usize, mark: u8) -> usize
     ensures result_value { result < from + n → result < length bytes.now → get_or bytes.now result 0 ≡ mark }
 {
     let end = end_of(bytes, from, n);
-    let mut at = from;
-    while at < end {
+    for at in from..end {
         if bytes[at] == mark {
             return at;
         }
-        at = at + 1;
     }
-    at
+    end
 }
 
 // The offset of the next mark at or behind `from`, or of the end (`from` where it is beyond).

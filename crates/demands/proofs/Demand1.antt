@@ -13,6 +13,7 @@ use Rattle.digits.specs.Bytes.{is_character}
 use Rattle.digits.proofs.Choices.{test, within_bounds}
 use Rattle.form.specs.declared.Judgement.{Judgement}
 use Rattle.form.specs.declared.Judgement.TheVariants.{Whole, Bad, Waiting}
+use Rattle.form.specs.Numbers.{refused_numbers}
 use Rattle.form.specs.declared.JudgementNumbers.{JudgementNumbers}
 use Rattle.reading.specs.Answers.{refused, room_in}
 use Rattle.reading.specs.declared.Answer.{Answer}
@@ -39,7 +40,7 @@ use Rattle.capture.specs.Lines.{empty_part, part_of}
 use Rattle.std.specs.declared.option.Option.TheVariants.{Some, None}
 use Rattle.capture.specs.declared.Dialect.{Dialect}
 use Rattle.capture.specs.declared.Dialect.TheVariants.{Sirad, Packets}
-use Rattle.capture.specs.declared.Verdict.TheVariants.{Refused, Judged}
+use Rattle.std.specs.declared.result.Result.TheVariants.{Ok}
 use Rattle.capture.proofs.EntryLaws.{unknown_refused}
 use Rattle.capture.proofs.LineLaws.{unknown_part, main_long, standby_long}
 use Rattle.capture.proofs.Wires.{dialect_none}
@@ -62,32 +63,28 @@ asked_is (suc (suc (suc n))) h = absurd (omega arith)
 pub asked_none : (dialect : ℕ) → 3 ≤ dialect → dialect_of dialect ≡ None
 asked_none dialect h = sym (dialect_none dialect (λ e. omega arith) (λ e. omega arith) (λ e. omega arith))
 
-not_refused : (j : Judgement) → (verdict_numbers (Judged j)).refusal ≡ 0
+not_refused : (j : Judgement) → (verdict_numbers (Ok j)).refusal ≡ 0
 not_refused (Whole k n) = refl
 not_refused (Bad r) = refl
 not_refused Waiting = refl
 
--- a verdict's number, zeros beside it
-abbrev zero_verdict : ℕ → JudgementNumbers
-zero_verdict n = verdict_numbers (Refused n)
-
 verdict_refuses : (d : Dialect) (bs : List ℕ) (at : ℕ)
-    → Refuses (3 when (max_bytes < length bs) else 2 when (length bs < at) else none) zero_verdict (λ (a : JudgementNumbers). a.refusal)
+    → Refuses (3 when (max_bytes < length bs) else 2 when (length bs < at) else none) refused_numbers (λ (a : JudgementNumbers). a.refusal)
     (verdict_numbers (verdict (Some d) bs at))
 unfolding verdict
 verdict_refuses d bs at =
-    when_test zero_verdict (λ (a : JudgementNumbers). a.refusal) (λ n. refl) (2 when (length bs < at) else none) 3
+    when_test refused_numbers (λ (a : JudgementNumbers). a.refusal) (λ n. refl) (2 when (length bs < at) else none) 3
     (ltb max_bytes (length bs)) (less_exactly max_bytes (length bs)) (verdict_numbers (verdict (Some d) bs at)) (λ long. rw long)
     (λ short.
-    when_test zero_verdict (λ (a : JudgementNumbers). a.refusal) (λ n. refl) none 2
+    when_test refused_numbers (λ (a : JudgementNumbers). a.refusal) (λ n. refl) none 2
     (ltb (length bs) at) (less_exactly (length bs) at) (verdict_numbers (verdict (Some d) bs at)) (λ beyond. rw (short, beyond))
     (λ inside.
-    fine zero_verdict (λ (a : JudgementNumbers). a.refusal) (λ n. refl) (verdict_numbers (verdict (Some d) bs at))
+    fine refused_numbers (λ (a : JudgementNumbers). a.refusal) (λ n. refl) (verdict_numbers (verdict (Some d) bs at))
     (rw (short, inside) (not_refused (judge_of d (drop at bs))))))
 
 pub judgement_refuses : say.JudgementRefuses
 judgement_refuses dialect bs at =
-    unless_test zero_verdict (λ (a : JudgementNumbers). a.refusal) (λ n. refl)
+    unless_test refused_numbers (λ (a : JudgementNumbers). a.refusal) (λ n. refl)
     (3 when (max_bytes < length bs) else 2 when (length bs < at) else none) 1
     (ltb dialect 3) (less_exactly dialect 3) (verdict_numbers (verdict (dialect_of dialect) bs at))
     (λ f. rw (asked_none dialect (ltb-false dialect 3 f), ← unknown_refused bs at))

@@ -5,6 +5,7 @@
 -- entry whose promise is the definition that it is said of. What writers refuse stands in Writing.antt.
 use Rattle.std.specs.Prelude.{Bool, ◌≡◌, List, ℕ, ◌*◌, ◌^◌, ◌<◌, ◌≤◌, length}
 use Rattle.refusals.specs.Numbers.{refusal_number}
+use Rattle.form.specs.Numbers.{refused_numbers}
 use Rattle.form.specs.declared.JudgementNumbers.{JudgementNumbers}
 use Rattle.reading.specs.Answers.{refused, room_in}
 use Rattle.reading.specs.declared.Answer.{Answer}
@@ -32,7 +33,6 @@ use Rattle.demorad.specs.declared.Command.{Command}
 use Rattle.capture.specs.Dialects.{dialect_of}
 use Rattle.capture.specs.Entries.{max_bytes, verdict, verdict_numbers, read_answer, read_leaves}
 use Rattle.capture.specs.Lines.{empty_part, part_of}
-use Rattle.capture.specs.declared.Verdict.TheVariants.{Refused}
 use Rattle.demands.specs.Words.{none, ◌when◌else◌, ◌unless◌else◌, Refuses}
 
 -- -- Judgement and readings
@@ -42,7 +42,7 @@ abbrev pub JudgementRefuses : Type 0
 JudgementRefuses =
     (dialect : ℕ) (bs : List ℕ) (at : ℕ)
     → Refuses (1 unless (dialect < 3) else 3 when (max_bytes < length bs) else 2 when (length bs < at) else none)
-    (λ (n : ℕ). verdict_numbers (Refused n)) (λ (a : JudgementNumbers). a.refusal) (verdict_numbers (verdict (dialect_of dialect) bs at))
+    refused_numbers (λ (a : JudgementNumbers). a.refusal) (verdict_numbers (verdict (dialect_of dialect) bs at))
 
 -- "readings 1, 3" (`capture_read::read_capture`, `readings::vq_open_reading`, `readings::vq_closed_reading`)
 abbrev pub ReadingRefuses : Type 0

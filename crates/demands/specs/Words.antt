@@ -8,9 +8,11 @@ use Rattle.mmwave.specs.Dialects.{sentences_of}
 use Rattle.capture.specs.Dialects.{form_of, judge_of}
 use Rattle.capture.specs.Entries.{verdict}
 use Rattle.std.specs.declared.option.Option.TheVariants.{Some}
+use Rattle.form.specs.declared.Judgement.{Judgement}
+use Rattle.refusals.specs.declared.Refusal.{Refusal}
 use Rattle.capture.specs.declared.Dialect.{Dialect}
 use Rattle.capture.specs.declared.Dialect.TheVariants.{Sirad, Packets}
-use Rattle.capture.specs.declared.Verdict.{Verdict}
+use Rattle.std.specs.declared.result.Result.{Result}
 
 -- -- Refusals in their order (paper 01, "Refusal numbers": "Order")
 
@@ -43,7 +45,7 @@ abbrev pub StandsIn : Dialect → List ℕ → Standing
 StandsIn d bs at kind size = Stands (form_of d) kind size (drop at bs)
 
 -- what the judgement says at a place
-abbrev pub judged_at : Dialect → List ℕ → ℕ → Verdict
+abbrev pub judged_at : Dialect → List ℕ → ℕ → Result Judgement Refusal
 judged_at d bs at = verdict (Some d) bs at
 
 -- the open reading, with room for so many rows

@@ -9,6 +9,8 @@ use Rattle.form.specs.declared.Unparsed.{Unparsed}
 use Rattle.form.specs.declared.Unparsed.TheVariants as unparsed
 use Rattle.std.specs.declared.result.Result.{Result}
 use Rattle.std.specs.declared.result.Result.TheVariants.{Ok, Err}
+use Rattle.refusals.specs.declared.Refusal.{Refusal}
+use Rattle.refusals.specs.Numbers.{number}
 use Rattle.form.specs.Form.{Form, judge_at}
 
 -- whole: 1, with kind and length; bad: 2, with its reason; waiting: 3. A judgement is no refusal
@@ -16,6 +18,15 @@ abbrev pub numbers_of : Judgement → JudgementNumbers
 numbers_of (Whole k n) = record { refusal = 0; state = 1; kind = k; reason = 0; length = n }
 numbers_of (Bad r) = record { refusal = 0; state = 2; kind = 0; reason = r; length = 0 }
 numbers_of Waiting = record { refusal = 0; state = 3; kind = 0; reason = 0; length = 0 }
+
+-- what is refused: the refusal's number, every other number 0 (paper 01, "Refusal numbers")
+abbrev pub refused_numbers : ℕ → JudgementNumbers
+refused_numbers n = record { refusal = n; state = 0; kind = 0; reason = 0; length = 0 }
+
+-- an entry's answer in numbers: those of its judgement, or those of its refusal
+abbrev pub answer_numbers : Result Judgement Refusal → JudgementNumbers
+answer_numbers (Ok j) = numbers_of j
+answer_numbers (Err r) = refused_numbers (number r)
 
 -- the judgement that a piece's answer is: its value and end as kind and length, its reason, or waiting (paper 01, "Judging a place")
 abbrev pub judgement_of : Result Parsed Unparsed → Judgement

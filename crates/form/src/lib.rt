@@ -2,8 +2,10 @@
 #![tactic(auto)]
 
 ghost use Rattle.std.specs.Prelude.{◌≡◌};
-ghost use Rattle.form.specs.Numbers.{numbers_of, judgement_of, Judges};
+ghost use Rattle.form.specs.Numbers.{numbers_of, answer_numbers, judgement_of, Judges};
 ghost use Rattle.form.specs.Pieces.{any, always, four, free, frees};
+
+use refusals::Refusal;
 
 // Paper 01, "Judging a place".
 #[derive(Clone, Copy)]
@@ -83,6 +85,23 @@ impl From<Judgement> for JudgementNumbers {
             Judgement::Waiting => JudgementNumbers {
                 refusal: 0,
                 state: STATE_WAITING,
+                kind: 0,
+                reason: 0,
+                length: 0,
+            },
+        }
+    }
+}
+
+impl From<Result<Judgement, Refusal>> for JudgementNumbers {
+    ghost from_gives = { λ r n. n ≡ answer_numbers r };
+
+    fn from(answer: Result<Judgement, Refusal>) -> JudgementNumbers {
+        match answer {
+            Ok(j) => JudgementNumbers::from(j),
+            Err(refusal) => JudgementNumbers {
+                refusal: refusal.number(),
+                state: 0,
                 kind: 0,
                 reason: 0,
                 length: 0,

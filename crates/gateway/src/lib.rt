@@ -7,7 +7,6 @@ ghost use Rattle.capture.specs.Dialects.{dialect_of};
 ghost use Rattle.capture.specs.Entries.{verdict, verdict_numbers};
 ghost use Rattle.units.specs.Units.{centidegrees, millimetres};
 
-use capture::Verdict;
 use form::JudgementNumbers;
 use units::Quantity;
 
@@ -17,16 +16,7 @@ use units::Quantity;
 pub extern "C" fn vq_judge(dialect: u32, bytes: &[u8], offset: usize) -> JudgementNumbers
     ensures { result ≡ verdict_numbers (verdict (dialect_of dialect) bytes.now offset) }
 {
-    match capture_judge::judge_at(dialect, bytes, offset) {
-        Verdict::Refused(number) => JudgementNumbers {
-            refusal: number,
-            state: 0,
-            kind: 0,
-            reason: 0,
-            length: 0,
-        },
-        Verdict::Judged(j) => JudgementNumbers::from(j),
-    }
+    JudgementNumbers::from(capture_judge::judge_at(dialect, bytes, offset))
 }
 
 // The 32 bits of a coordinate in metres as whole millimetres by an edition, or the refusal number: 0x3D800000 is 63 in edition 1, 62 in

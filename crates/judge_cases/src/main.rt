@@ -5,40 +5,32 @@
 use case_input::{case_at, case_end};
 use form::Judgement;
 use mmwave::PacketDialect;
-use std::io;
 use std::io::Read;
+use std::{fmt, io};
 
 // The most bytes of input that are read.
 const MOST_INPUT: u64 = 65536;
 
-fn field(rt: &impl Print, n: u64) -> io::Result<()> {
-    print!(rt; " {n}")
-}
+// A judgement as it is printed.
+#[derive(Clone, Copy)]
+struct Shown(Judgement);
 
-fn print_judgement(rt: &impl Print, j: Judgement) -> io::Result<()> {
-    match j {
-        Judgement::Whole(kind, size) => {
-            rt.print(" whole")?;
-            field(rt, kind as u64)?;
-            field(rt, size as u64)
+impl fmt::Display for Shown {
+    fn fmt<W: fmt::Write>(&self, f: &mut fmt::Formatter<W>) -> fmt::Result {
+        match self.0 {
+            Judgement::Whole(kind, size) => write!(f, "whole {kind} {size}"),
+            Judgement::Bad(reason) => write!(f, "bad {reason}"),
+            Judgement::Waiting => f.write_str("waiting"),
         }
-        Judgement::Bad(reason) => {
-            rt.print(" bad")?;
-            field(rt, reason as u64)
-        }
-        Judgement::Waiting => rt.print(" waiting"),
     }
 }
 
 fn judge_one(rt: &impl Print, s: &[u8]) -> io::Result<()> {
-    rt.print(s.len())?;
-    rt.print(" sirad")?;
-    print_judgement(rt, sirad_judge::judge(s))?;
-    rt.print(" mmwave")?;
-    print_judgement(rt, mmwave_judge::judge(s, PacketDialect::MmWave))?;
-    rt.print(" vital")?;
-    print_judgement(rt, mmwave_judge::judge(s, PacketDialect::VitalSigns))?;
-    rt.print("\n")
+    let size = s.len();
+    let sirad = Shown(sirad_judge::judge(s));
+    let mmwave = Shown(mmwave_judge::judge(s, PacketDialect::MmWave));
+    let vital = Shown(mmwave_judge::judge(s, PacketDialect::VitalSigns));
+    print!(rt; "{size} sirad {sirad} mmwave {mmwave} vital {vital}\n")
 }
 
 fn judge_all(rt: &impl Print, input: &[u8]) -> io::Result<()> {

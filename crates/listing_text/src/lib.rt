@@ -7,6 +7,7 @@ ghost use Rattle.listing.specs.Listing.{listed, listing};
 
 use capture::Dialect;
 use listing_table::write_table;
+use reading::Answer;
 use refusals::Refusal;
 
 // The most bytes of input that are listed.
@@ -40,7 +41,7 @@ fn write_listed(bytes: &[u8], out: &mut [u8], d: Dialect) -> Result<usize, Refus
 {
     let mut table = row_table();
     let number = capture_judge::number_of(d);
-    let a = capture_read::closed_reading(number, bytes, &mut table);
+    let a = Answer::from(capture_read::closed_reading(number, bytes, &mut table));
     let size = bytes.len() as u32;
     let skipped = a.skipped as u32;
     write_table(out, &table, a.rows, size, skipped)

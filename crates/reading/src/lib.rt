@@ -2,6 +2,11 @@
 // code is in `capture`.
 #![tactic(auto)]
 
+ghost use Rattle.std.specs.Prelude.{◌≡◌};
+ghost use Rattle.reading.specs.Answers.{state_of, answer_of};
+
+use refusals::Refusal;
+
 // A frame of the answer: its offset (paper 01's "place"), length and kind.
 #[derive(Clone, Copy)]
 pub struct Row {
@@ -13,16 +18,41 @@ pub struct Row {
 // How many numbers a row takes in the table.
 pub const ROW_WIDTH: usize = 3;
 
-// Why a reading stopped (paper 01, "Two readings"): the open one where it waits, either at a whole frame with no row left, the closed one
-// at the end.
-pub const STATE_WAITING: u32 = 0;
+// Why a reading stopped (paper 01, "Two readings").
+#[derive(Clone, Copy, Debug, PartialEq, Eq)]
+pub enum Stop {
+    // the open reading, where it waits
+    Waiting,
+    // either reading, at a whole frame with no row left
+    Full,
+    // the closed reading, at the end
+    End,
+}
 
-pub const STATE_FULL: u32 = 1;
+// The state's number for a host in C.
+impl From<Stop> for u32 {
+    ghost from_gives = { λ s n. n ≡ state_of s };
 
-pub const STATE_END: u32 = 2;
+    fn from(stop: Stop) -> u32 {
+        match stop {
+            Stop::Waiting => 0,
+            Stop::Full => 1,
+            Stop::End => 2,
+        }
+    }
+}
 
-// What a reading answers: the refusal number (0: none), why it stopped, how many rows it wrote, the skipped bytes, and the offset where it
-// stopped.
+// What a reading that was not refused comes to: how many rows it wrote, the skipped bytes, the offset where it stopped, and why.
+#[derive(Clone, Copy)]
+pub struct Summary {
+    pub rows: usize,
+    pub skipped: usize,
+    pub next: usize,
+    pub stop: Stop,
+}
+
+// What a reading answers to a host in C: the refusal number (0: none), the state, how many rows it wrote, the skipped bytes, and the
+// offset where it stopped.
 #[repr(C)]
 #[derive(Clone, Copy)]
 pub struct Answer {
@@ -31,4 +61,27 @@ pub struct Answer {
     pub rows: usize,
     pub skipped: usize,
     pub next: usize,
+}
+
+impl From<Result<Summary, Refusal>> for Answer {
+    ghost from_gives = { λ r a. a ≡ answer_of r };
+
+    fn from(read: Result<Summary, Refusal>) -> Answer {
+        match read {
+            Ok(summary) => Answer {
+                refusal: 0,
+                state: u32::from(summary.stop),
+                rows: summary.rows,
+                skipped: summary.skipped,
+                next: summary.next,
+            },
+            Err(refusal) => Answer {
+                refusal: refusal.number(),
+                state: 0,
+                rows: 0,
+                skipped: 0,
+                next: 0,
+            },
+        }
+    }
 }

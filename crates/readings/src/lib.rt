@@ -12,7 +12,7 @@ use reading::Answer;
 pub extern "C" fn vq_open_reading(dialect: u32, bytes: &[u8], table: &mut [u32]) -> Answer
     ensures { Reads dialect false bytes.now table.old result table.new }
 {
-    capture_read::read_capture(dialect, bytes, table, false)
+    Answer::from(capture_read::read_capture(dialect, bytes, table, false))
 }
 
 // The closed reading: the same for bytes behind which nothing comes.
@@ -20,5 +20,5 @@ pub extern "C" fn vq_open_reading(dialect: u32, bytes: &[u8], table: &mut [u32])
 pub extern "C" fn vq_closed_reading(dialect: u32, bytes: &[u8], table: &mut [u32]) -> Answer
     ensures { Reads dialect true bytes.now table.old result table.new }
 {
-    capture_read::read_capture(dialect, bytes, table, true)
+    Answer::from(capture_read::read_capture(dialect, bytes, table, true))
 }
