@@ -11,7 +11,8 @@ returns-then-n-out c =
     let a = c.args in
     let size = length-replicate a.n a.b in
     part_stored _ a.at (replicate a.n a.b) _ _
-    (c.fill.ensures.after (λ y e. e) ∙ ap (λ (k : ℕ). replicate k a.b) (simp (length-take, length-drop) (omega arith))) (omega arith) c.if-at-out.true (omega arith)
+    (c.fill.ensures.after (λ y e. e)
+    ∙ ap (λ (k : ℕ). replicate k a.b) (simp (length-take, length-drop) (omega arith))) (omega arith) c.if-at-out.true (omega arith)
 
 pub returns-else-at-out : goal.returns-else-at-out
 returns-else-at-out c =
