@@ -4,5 +4,4 @@ pub mod LittleEndianLaws
 pub mod HexLaws
 pub mod StoreLaws
 pub mod HexSteps
-pub mod StoreSteps
 pub mod RefusalLaws

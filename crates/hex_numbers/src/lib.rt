@@ -10,15 +10,6 @@ use digits::{digit_of, glyph_of};
 // As many hex digits as 32 bits take.
 const MOST_DIGITS: usize = 8;
 
-fn least(a: usize, b: usize) -> usize
-    ensures { result ≡ min a b }
-{
-    if a < b {
-        return a;
-    }
-    b
-}
-
 fn hex_from(s: &[u8], at: usize, n: usize) -> u32
     requires { (n ≤ 8) × (at + n ≤ length s.now) }
     ensures { result ≡ hex_at n at s.now }
@@ -41,8 +32,7 @@ pub fn hex_at(s: &[u8], at: usize, n: usize) -> u32
     if s.len() < at {
         return 0;
     }
-    let digits = least(n, MOST_DIGITS);
-    let count = least(digits, s.len() - at);
+    let count = n.min(MOST_DIGITS).min(s.len() - at);
     hex_from(s, at, count)
 }
 

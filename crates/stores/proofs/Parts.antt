@@ -10,5 +10,6 @@ module _ (out : List ℕ) (at : ℕ) (bytes : List ℕ) where
   pub part_stored : (k : ℕ) (part : List ℕ) → part ≡ bytes → k ≡ length bytes → at ≤ length out → length bytes ≤ length out - at
       → put_mid at k out part ≡ stored_within out at bytes
   unfolding stored
-  part_stored k part e s l f = rw (e, s, within_fits out at bytes (omega arith), sets-eq bytes out at (omega arith), drop-drop (length bytes) at out)
+  part_stored k part e s l f =
+      rw (e, s, within_fits out at bytes (omega arith), sets-eq bytes out at (omega arith), drop-drop (length bytes) at out)
       (sym (append_assoc (take at out) bytes (drop (at + length bytes) out)))

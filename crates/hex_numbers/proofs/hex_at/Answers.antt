@@ -2,19 +2,11 @@
 use mathlib.Core.Path.{◌∙◌, sym}
 use Prim.Native.Nat.{min}
 use native.Mathlib.Omega.{arith}
-use Rattle.digits.proofs.HexSteps.{hex_missing, hex_counted}
+use Rattle.digits.proofs.HexSteps.{hex_missing, hex_there}
 use Rattle.hex_numbers.proofs.hex_at.Goals as goal
 
 pub returns-then-s-at : goal.returns-then-s-at
 returns-then-s-at c = let a = c.args in sym (hex_missing (min a.n 8) a.at a.s.now (omega arith))
 
-pub hex_from-requires : goal.hex_from-requires
-hex_from-requires c =
-    let most = c.least-digits.ensures in
-    let there = c.least-count.ensures in
-    (omega (arith, most, there), omega (arith, most, there))
-
 pub returns : goal.returns
-returns c =
-    let a = c.args in
-    c.hex_from.ensures ∙ hex_counted a.n a.at a.s.now c.least-digits.ensures c.least-count.ensures
+returns c = let a = c.args in c.hex_from.ensures ∙ rw (c.min-count.ensures, c.min.ensures) (hex_there (min a.n 8) a.at a.s.now)
