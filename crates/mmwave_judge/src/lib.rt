@@ -2,6 +2,7 @@
 #![tactic(auto)]
 
 ghost use Rattle.std.specs.Prelude.{◌≡◌, true, false, ◌+◌, ◌-◌, ◌*◌, ◌≤◌, length, take};
+ghost use Rattle.digits.specs.LittleEndian.{little_at};
 ghost use Rattle.form.specs.Form.{judge as judge_form, judge_at};
 ghost use Rattle.form.specs.Numbers.{Judges};
 ghost use Rattle.mmwave.specs.Packet.{magic, records, packet};
@@ -13,7 +14,6 @@ use mmwave_dialects::{objects_ok, subframe_ok};
 use mmwave_header::{count_ok, total_ok};
 use mmwave_inside::judge_records;
 use mmwave_pieces::{BAD_COUNT, BAD_FIXED, BAD_TOTAL, NO_MAGIC, judge_pieces};
-use numbers::word_at;
 
 // Whether the bytes begin with the magic: compared as one number, in one step.
 fn has_magic(s: &[u8]) -> bool
@@ -22,6 +22,14 @@ fn has_magic(s: &[u8]) -> bool
 {
     let first: &[u8; 8] = s.first_chunk().unwrap();
     u64::from_le_bytes(*first) == u64::from_le_bytes(Header::MAGIC)
+}
+
+// The number at an offset of a header that is there.
+fn number(s: &[u8], at: usize) -> u32
+    requires { at + 4 ≤ length s.now }
+    ensures { result ≡ little_at 4 at s.now }
+{
+    numbers::word_at(s, at)
 }
 
 // What follows the header, with a total length and a record count that passed.
@@ -39,13 +47,13 @@ fn judge_header(s: &[u8], d: PacketDialect) -> Judgement
     ensures { result ≡ judge_form (packet (profile_of d)) 0 s.now }
 {
     if has_magic(s) {
-        let l = word_at(s, Header::TOTAL);
+        let l = number(s, Header::TOTAL);
         if total_ok(l, d) {
-            let objects = word_at(s, Header::OBJECTS);
+            let objects = number(s, Header::OBJECTS);
             if objects_ok(objects, d) {
-                let k = word_at(s, Header::RECORDS);
+                let k = number(s, Header::RECORDS);
                 if count_ok(l, k, d) {
-                    if subframe_ok(word_at(s, Header::SUBFRAME), d) {
+                    if subframe_ok(number(s, Header::SUBFRAME), d) {
                         return behind_header(s, l, objects, k, d);
                     }
                     return Judgement::Bad(BAD_FIXED);

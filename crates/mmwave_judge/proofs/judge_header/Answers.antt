@@ -1,6 +1,5 @@
 -- The numbers at the header's offsets, tested in byte order.
-use Rattle.std.proofs.Common.{arith, sym, ◌∙◌}
-use Rattle.digits.proofs.LittleEndianLaws.{word_there}
+use Rattle.std.proofs.Common.{sym, ◌∙◌}
 use Rattle.mmwave.specs.Dialects.{profile_of}
 use Rattle.mmwave.proofs.RecordLaws.{count_room}
 use Rattle.mmwave.proofs.Within.{no_magic, header_total, header_objects, header_count, header_subframe, header_passed}
@@ -14,40 +13,40 @@ returns-then-subframe_ok c =
     let bs = c.args.s.now in
     c.behind_header.ensures
     ∙ header_passed (profile_of c.args.d) bs c.requires (c.has_magic.ensures.0 c.if-has_magic.true)
-    (c.word_at-l.ensures ∙ word_there bs 12 (omega arith)) c.total_ok.ensures c.if-total_ok.true
-    (c.word_at-objects.ensures ∙ word_there bs 28 (omega arith)) c.objects_ok.ensures c.if-objects_ok.true
-    (c.word_at-k.ensures ∙ word_there bs 32 (omega arith)) c.count_ok.ensures c.if-count_ok.true
-    (c.word_at.ensures ∙ word_there bs 36 (omega arith)) c.subframe_ok.ensures c.if-subframe_ok.true
+    c.number-l.ensures c.total_ok.ensures c.if-total_ok.true
+    c.number-objects.ensures c.objects_ok.ensures c.if-objects_ok.true
+    c.number-k.ensures c.count_ok.ensures c.if-count_ok.true
+    c.number.ensures c.subframe_ok.ensures c.if-subframe_ok.true
 
 pub returns-then-count_ok : goal.returns-then-count_ok
 returns-then-count_ok c =
     let bs = c.args.s.now in
     header_subframe (profile_of c.args.d) bs c.requires (c.has_magic.ensures.0 c.if-has_magic.true)
-    (c.word_at-l.ensures ∙ word_there bs 12 (omega arith)) c.total_ok.ensures c.if-total_ok.true
-    (c.word_at-objects.ensures ∙ word_there bs 28 (omega arith)) c.objects_ok.ensures c.if-objects_ok.true
-    (c.word_at-k.ensures ∙ word_there bs 32 (omega arith)) c.count_ok.ensures c.if-count_ok.true
-    (c.word_at.ensures ∙ word_there bs 36 (omega arith)) c.subframe_ok.ensures c.if-subframe_ok.false
+    c.number-l.ensures c.total_ok.ensures c.if-total_ok.true
+    c.number-objects.ensures c.objects_ok.ensures c.if-objects_ok.true
+    c.number-k.ensures c.count_ok.ensures c.if-count_ok.true
+    c.number.ensures c.subframe_ok.ensures c.if-subframe_ok.false
 
 pub returns-then-objects_ok : goal.returns-then-objects_ok
 returns-then-objects_ok c =
     let bs = c.args.s.now in
     header_count (profile_of c.args.d) bs c.requires (c.has_magic.ensures.0 c.if-has_magic.true)
-    (c.word_at-l.ensures ∙ word_there bs 12 (omega arith)) c.total_ok.ensures c.if-total_ok.true
-    (c.word_at-objects.ensures ∙ word_there bs 28 (omega arith)) c.objects_ok.ensures c.if-objects_ok.true
-    (c.word_at-k.ensures ∙ word_there bs 32 (omega arith)) c.count_ok.ensures c.if-count_ok.false
+    c.number-l.ensures c.total_ok.ensures c.if-total_ok.true
+    c.number-objects.ensures c.objects_ok.ensures c.if-objects_ok.true
+    c.number-k.ensures c.count_ok.ensures c.if-count_ok.false
 
 pub returns-then-total_ok : goal.returns-then-total_ok
 returns-then-total_ok c =
     let bs = c.args.s.now in
     header_objects (profile_of c.args.d) bs c.requires (c.has_magic.ensures.0 c.if-has_magic.true)
-    (c.word_at-l.ensures ∙ word_there bs 12 (omega arith)) c.total_ok.ensures c.if-total_ok.true
-    (c.word_at-objects.ensures ∙ word_there bs 28 (omega arith)) c.objects_ok.ensures c.if-objects_ok.false
+    c.number-l.ensures c.total_ok.ensures c.if-total_ok.true
+    c.number-objects.ensures c.objects_ok.ensures c.if-objects_ok.false
 
 pub returns-then-has_magic : goal.returns-then-has_magic
 returns-then-has_magic c =
     let bs = c.args.s.now in
     header_total (profile_of c.args.d) bs c.requires (c.has_magic.ensures.0 c.if-has_magic.true)
-    (c.word_at-l.ensures ∙ word_there bs 12 (omega arith)) c.total_ok.ensures c.if-total_ok.false
+    c.number-l.ensures c.total_ok.ensures c.if-total_ok.false
 
 pub returns : goal.returns
 returns c = no_magic (profile_of c.args.d) c.args.s.now c.requires (c.has_magic.ensures.1 c.if-has_magic.false)
