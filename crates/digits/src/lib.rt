@@ -9,9 +9,6 @@ ghost use Rattle.digits.specs.Stores.{written_of};
 
 use refusals::Refusal;
 
-// The refusal of every writer whose output is too short (paper 01, "Refusal numbers").
-pub const OUTPUT_TOO_SHORT: u32 = 51;
-
 // A character is a byte from the first to the last, both included (document 000).
 const FIRST_CHARACTER: u8 = 34;
 

@@ -14,12 +14,10 @@ fn hex_from(s: &[u8], at: usize, n: usize) -> u32
     requires { (n ≤ 8) × (at + n ≤ length s.now) }
     ensures { result ≡ hex_at n at s.now }
 {
-    let mut v: u32 = 0;
-    let mut i: usize = 0;
-    while i < n {
+    let mut v = 0;
+    for i in 0..n {
         let d = digit_of(s[at + i]);
         v = v * 16 + d as u32;
-        i = i + 1;
     }
     v
 }
@@ -62,10 +60,8 @@ pub fn put_hex(out: &mut [u8], at: usize, n: usize, v: u32)
         return;
     }
     let mut rest = v;
-    let mut i = n;
-    while 0 < i {
-        i = i - 1;
+    for i in (0..n).rev() {
         out[at + i] = glyph_of(rest);
-        rest = rest / 16;
+        rest /= 16;
     }
 }

@@ -66,9 +66,8 @@ pub fn write_data(out: &mut [u8], kind: u32, content: &[u8]) -> Result<usize, Re
     ensures { Writes (data_refusal kind content.now)
         (data_bytes kind content.now) out.old (written_of result) out.new }
 {
-    let known = check_data(kind, content)?;
     let size = 16 + content.len();
-    stores::check_room(size, out.len())?;
+    let known = stores::refusal_of(check_data(kind, content), size, out.len())?;
     put_data(out, known, content);
     Ok(size)
 }

@@ -1,11 +1,10 @@
 // Stores into a lent buffer, and the refusal of a writer.
 #![tactic(auto)]
 
-ghost use Rattle.std.specs.Prelude.{◌≡◌, [], ◌∷◌, replicate};
+ghost use Rattle.std.specs.Prelude.{◌≡◌, [], ◌∷◌, replicate, IfOk, Ok};
 ghost use Rattle.refusals.specs.Numbers.{refusal_number};
 ghost use Rattle.digits.specs.Stores.{stored_within, writer_refusal};
 
-use digits::OUTPUT_TOO_SHORT;
 use refusals::Refusal;
 
 // Lays two bytes over the buffer at an offset; changes nothing where they do not fit.
@@ -36,38 +35,15 @@ pub fn put_bytes(out: &mut [u8], at: usize, bytes: &[u8])
     }
 }
 
-// Whether an output has room for so many bytes. `check_room(26, 25)` is refused, `check_room(26, 26)` is not.
-#[tactic(auto, unfolding(digits::specs::Stores::writer_refusal))]
-pub fn check_room(size: usize, room: usize) -> Result<(), Refusal>
-    ensures { refusal_number result ≡ writer_refusal 0 size room }
+// What the check of a writer's values gave, where the output has room for so many bytes: the values' refusal comes first.
+// `refusal_of(Ok(()), 26, 25)` is refused, `refusal_of(Ok(()), 26, 26)` is not.
+pub fn refusal_of<T: Copy>(values: Result<T, Refusal>, size: usize, room: usize) -> Result<T, Refusal>
+    ensures refusal { refusal_number result ≡ writer_refusal (refusal_number values) size room }
+    ensures value { IfOk result (λ x. values ≡ Ok x) }
 {
-    if size <= room {
-        Ok(())
-    } else {
-        Err(Refusal::OutputTooShort)
-    }
-}
-
-// The refusal of a writer of so many bytes: that of its values, if there is one, else 51 where the room is too short.
-// `refusal_of(0, 26, 25)` is 51.
-pub fn refusal_of(unfit: u32, size: usize, room: usize) -> u32
-    ensures { result ≡ writer_refusal unfit size room }
-{
-    if unfit != 0 {
-        return unfit;
-    }
+    let value = values?;
     if room < size {
-        return OUTPUT_TOO_SHORT;
-    }
-    0
-}
-
-// Whether so many bytes have room: 51 where it is too short. `check_room(26, 25)` is refused.
-pub fn check_room(size: usize, room: usize) -> Result<(), Refusal>
-    ensures { refusal_number result ≡ writer_refusal 0 size room }
-{
-    if size > room {
         return Err(Refusal::OutputTooShort);
     }
-    Ok(())
+    Ok(value)
 }

@@ -1,5 +1,5 @@
 -- One digit gives a number below 16 ^ 1.
-use native.Mathlib.Omega.{arith}
+use Rattle.std.proofs.Common.{arith}
 use Rattle.digits.proofs.HexLaws.{hex_at_below}
 use Rattle.hex_numbers.proofs.digit_at.Goals as goal
 

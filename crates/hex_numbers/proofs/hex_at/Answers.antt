@@ -1,7 +1,5 @@
 -- Each return is one law: no byte is there; those that are there.
-use mathlib.Core.Path.{◌∙◌, sym}
-use Prim.Native.Nat.{min}
-use native.Mathlib.Omega.{arith}
+use Rattle.std.proofs.Common.{min, sym, ◌∙◌, arith}
 use Rattle.digits.proofs.HexSteps.{hex_missing, hex_there}
 use Rattle.hex_numbers.proofs.hex_at.Goals as goal
 

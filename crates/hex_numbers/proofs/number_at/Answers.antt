@@ -1,5 +1,5 @@
 -- Four digits give a number below 16 ^ 4.
-use native.Mathlib.Omega.{arith}
+use Rattle.std.proofs.Common.{arith}
 use Rattle.digits.proofs.HexLaws.{hex_at_below}
 use Rattle.hex_numbers.proofs.number_at.Goals as goal
 

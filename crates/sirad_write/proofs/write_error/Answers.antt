@@ -1,23 +1,26 @@
--- Refused, or put: by the check of the room alone.
-use Rattle.std.proofs.Common.{arith, length}
+-- Refused, or put: by the room alone.
+use Rattle.std.proofs.Common.{arith, sym}
 use Rattle.std.proofs.lemmas.Result.{err_from_is_err_and}
 use Rattle.sirad_fields.proofs.FrameStores.{error_size}
 use Rattle.sirad_fields.proofs.WritingLaws.{error_fits}
-use Rattle.sirad_fields.proofs.AnswerLaws.{room_there, room_short, all_stored}
+use Rattle.sirad_fields.proofs.AnswerLaws.{answer_refused, answer_fits, answer_stored}
 use Rattle.sirad_write.proofs.write_error.Goals as goal
 
-pub returns-in_err-check_room : goal.returns-in_err-check_room
-returns-in_err-check_room c =
+pub returns-in_err-refusal_of : goal.returns-in_err-refusal_of
+returns-in_err-refusal_of c =
     let p = err_from_is_err_and c.from_residual.result c.from_residual.ensures.1 in
     let flags = c.args.flags in
-    let fits = error_fits flags (omega arith) in
-    rw (p.1, p.2) (room_short _ _ _ 8 (error_size flags) fits c.check_room.ensures c.in_err-check_room.was)
+    let fits = sym (error_fits flags (omega arith)) in
+    rw (p.1, p.2) (answer_refused _ _ _ 8 (error_size flags) fits c.refusal_of.ensures.refusal c.in_err-refusal_of.was)
 
 pub put_error-requires : goal.put_error-requires
-put_error-requires c = room_there 8 (length c.args.out.now) c.check_room.ensures c.in_ok-check_room.was
+put_error-requires c =
+    let flags = c.args.flags in
+    let fits = sym (error_fits flags (omega arith)) in
+    (answer_fits _ _ c.args.out.now 8 (error_size flags) fits c.refusal_of.ensures.refusal c.in_ok-refusal_of.was).1
 
 pub returns : goal.returns
 returns c =
     let flags = c.args.flags in
-    let fits = error_fits flags (omega arith) in
-    all_stored _ _ _ 8 (error_size flags) fits c.check_room.ensures c.in_ok-check_room.was c.put_error.ensures
+    let fits = sym (error_fits flags (omega arith)) in
+    answer_stored _ _ _ 8 (error_size flags) fits c.refusal_of.ensures.refusal c.in_ok-refusal_of.was c.put_error.ensures
