@@ -41,7 +41,8 @@ fn write_listed(bytes: &[u8], out: &mut [u8], d: Dialect) -> Result<usize, Refus
 {
     let mut table = row_table();
     let number = capture_judge::number_of(d);
-    let a = Answer::from(capture_read::closed_reading(number, bytes, &mut table));
+    let read = capture_read::closed_reading(number, bytes, &mut table);
+    let a = Answer::from(read);
     let size = bytes.len() as u32;
     let skipped = a.skipped as u32;
     write_table(out, &table, a.rows, size, skipped)
