@@ -14,11 +14,6 @@ use refusals::Refusal;
 // The most bytes that are read at once.
 pub const MAX_BYTES: usize = 1048576;
 
-// The refusals of this crate (paper 01, "Refusal numbers").
-pub const UNKNOWN_DIALECT: u32 = 1;
-
-pub const TOO_MANY_BYTES: u32 = 3;
-
 // Whether a stream of so many bytes, `front` and `back` behind the first `offset`, is over the size limit; no sum can overflow.
 // `too_long(1048576, 0, 0)` is false, `too_long(1048576, 0, 1)` true.
 pub fn too_long(offset: usize, front: usize, back: usize) -> bool

@@ -1,5 +1,6 @@
 -- Refused, or put: by the values and the room.
-use Rattle.std.proofs.Common.{◌+◌, length, ◌≡◌, subst}
+use Rattle.std.proofs.Common.{◌+◌, length, ◌≡◌, subst, IfOk}
+use Rattle.sirad_fields.specs.Answers.{kind_number}
 use Rattle.std.proofs.lemmas.Result.{err_from_is_err_and}
 use Rattle.sirad_fields.proofs.RoundTrips.{data_fits}
 use Rattle.sirad_fields.proofs.FrameStores.{data_size}
@@ -11,14 +12,16 @@ returns-in_err-known c =
     let p = err_from_is_err_and c.from_residual.result c.from_residual.ensures.1 in
     let cs = c.args.content.now in
     let size = data_size c.args.kind cs in
-    rw (p.1, p.2) (answer_refused _ _ _ (16 + length cs) size c.check_data.ensures.refusal c.refusal_of.ensures.refusal c.in_err-known.was)
+    let values = c.check_data.ensures.refusal in
+    rw (p.1, p.2) (answer_refused _ _ _ (16 + length cs) size values c.refusal_of.ensures.refusal c.in_err-known.was)
 
 pub put_data-requires : goal.put_data-requires
 put_data-requires c =
     let a = c.args in
     let cs = a.content.now in
     let size = data_size a.kind cs in
-    let fits = answer_fits _ _ a.out.now (16 + length cs) size c.check_data.ensures.refusal c.refusal_of.ensures.refusal c.in_ok-known.was in
+    let values = c.check_data.ensures.refusal in
+    let fits = answer_fits _ _ a.out.now (16 + length cs) size values c.refusal_of.ensures.refusal c.in_ok-known.was in
     ((data_fits a.kind cs fits.0).count, fits.1)
 
 pub returns : goal.returns
