@@ -286,7 +286,7 @@ judgement_refuses_only number bs at = by_number (dec_lt number 3)
         ((λ h. let g = v.0 (rw k.1 at h) in (l, g.0, g.1)), (λ h. rw k.1 (v.1 (h.1, h.2))))
     by_number (no l) =
         let u : verdict (dialect_of number) bs at ≡ Err UnknownDialect =
-            rw (asked_none number (omega arith)) (sym (unknown_refused bs at)) in
+        rw (asked_none number (omega arith)) (sym (unknown_refused bs at)) in
         ((λ h. let z : ◌≡◌ {A = ℕ} 1 0 = rw u at h in absurd (omega arith)), (λ h. absurd (l h.0)))
 
 reading_refuses : (d : Dialect) (closed : Bool) (bs : List ℕ) (room : ℕ)

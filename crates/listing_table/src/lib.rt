@@ -124,7 +124,13 @@ fn held_rows(table: &[u32], rows: usize) -> usize
 }
 
 // Writes the text of rows that the table holds: it is measured first, since a refusal writes nothing.
-fn write_rows(out: &mut [u8], table: &[u32], rows: usize, size: u32, skipped: u32) -> Result<usize, Refusal>
+fn write_rows(
+    out: &mut [u8],
+    table: &[u32],
+    rows: usize,
+    size: u32,
+    skipped: u32,
+) -> Result<usize, Refusal>
     requires rows_bound { rows ≤ 8192 }
     requires rows_in_bounds { 3 * rows ≤ length table.now }
     ensures { Writes 0 (table_text rows table.now size skipped) out.old (written_of result) out.new }
@@ -137,7 +143,13 @@ fn write_rows(out: &mut [u8], table: &[u32], rows: usize, size: u32, skipped: u3
 
 // Writes the text of the first rows of a table, three numbers each, with the size of the input and its skipped bytes on the last line.
 // Of more rows than the table holds, or than 8,192, it writes none.
-pub fn write_table(out: &mut [u8], table: &[u32], rows: usize, size: u32, skipped: u32) -> Result<usize, Refusal>
+pub fn write_table(
+    out: &mut [u8],
+    table: &[u32],
+    rows: usize,
+    size: u32,
+    skipped: u32,
+) -> Result<usize, Refusal>
     ensures { Writes 0 (held_text rows table.now size skipped) out.old (written_of result) out.new }
 {
     let held = held_rows(table, rows);

@@ -6,9 +6,9 @@ use Rattle.refusals.proofs.NumberLaws.{number_ne0}
 use Rattle.digits.specs.Stores.{stored, writer_refusal, written_of, Writes}
 use Rattle.digits.proofs.RefusalLaws.{none_refused, all_written, refused_written}
 
--- a writer of n bytes, whose values gave u and whose room gave v
-module _ (refusal : ℕ) (bytes out : List ℕ) (n : ℕ) (size : length bytes ≡ n) {A : Type 0} {u v : Result A Refusal}
-    (values : refusal_number u ≡ refusal) (room : refusal_number v ≡ writer_refusal (refusal_number u) n (length out)) where
+-- a writer of n bytes, whose values are refused with u (0: not refused), and whose values and room gave v
+module _ (refusal : ℕ) (bytes out : List ℕ) (n : ℕ) (size : length bytes ≡ n) {A : Type 0} {u : ℕ} {v : Result A Refusal}
+    (values : u ≡ refusal) (room : refusal_number v ≡ writer_refusal u n (length out)) where
   pub answer_refused : {e : Refusal} → v ≡ Err e → Writes refusal bytes out (written_of (Err e)) out
   answer_refused {e} h = refused_written refusal bytes out n size values (ap refusal_number (sym h) ∙ room) (number_ne0 e)
 

@@ -37,7 +37,11 @@ pub fn put_bytes(out: &mut [u8], at: usize, bytes: &[u8])
 
 // What the check of a writer's values gave, where the output has room for so many bytes: the values' refusal comes first.
 // `refusal_of(Ok(()), 26, 25)` is refused, `refusal_of(Ok(()), 26, 26)` is not.
-pub fn refusal_of<T: Copy>(values: Result<T, Refusal>, size: usize, room: usize) -> Result<T, Refusal>
+pub fn refusal_of<T: Copy>(
+    values: Result<T, Refusal>,
+    size: usize,
+    room: usize,
+) -> Result<T, Refusal>
     ensures refusal { refusal_number result ≡ writer_refusal (refusal_number values) size room }
     ensures value { IfOk result (λ x. values ≡ Ok x) }
 {
