@@ -1,6 +1,7 @@
 -- Refused, or put: by the room alone.
 use Rattle.std.proofs.Common.{arith, sym}
 use Rattle.std.proofs.lemmas.Result.{err_from_is_err_and}
+use Rattle.sirad_fields.specs.Fields.{error_bytes}
 use Rattle.sirad_fields.proofs.FrameStores.{error_size}
 use Rattle.sirad_fields.proofs.WritingLaws.{error_fits}
 use Rattle.sirad_fields.proofs.AnswerLaws.{answer_refused, answer_fits, answer_stored}
@@ -17,7 +18,7 @@ pub put_error-requires : goal.put_error-requires
 put_error-requires c =
     let flags = c.args.flags in
     let fits = sym (error_fits flags (omega arith)) in
-    (answer_fits _ _ c.args.out.now 8 (error_size flags) fits c.refusal_of.ensures.refusal c.in_ok-refusal_of.was).1
+    (answer_fits _ (error_bytes flags) c.args.out.now 8 (error_size flags) fits c.refusal_of.ensures.refusal c.in_ok-refusal_of.was).1
 
 pub returns : goal.returns
 returns c =

@@ -1,6 +1,7 @@
 -- Refused, or put: by the values and the room.
 use Rattle.std.proofs.lemmas.Result.{err_from_is_err_and}
 use Rattle.sirad_fields.specs.Answers.{values_sent}
+use Rattle.sirad_fields.specs.Fields.{status_bytes}
 use Rattle.sirad_fields.proofs.FrameStores.{status_size}
 use Rattle.sirad_fields.proofs.AnswerLaws.{answer_refused, answer_fits, answer_stored}
 use Rattle.sirad_write.proofs.write_status.Goals as goal
@@ -14,7 +15,8 @@ returns-in_err-refusal_of c =
 pub put_status-requires : goal.put_status-requires
 put_status-requires c =
     let size = status_size (values_sent c.args.values) in
-    (answer_fits _ _ c.args.out.now 26 size c.check_status.ensures c.refusal_of.ensures.refusal c.in_ok-refusal_of.was).1
+    let bytes = status_bytes (values_sent c.args.values) in
+    (answer_fits _ bytes c.args.out.now 26 size c.check_status.ensures c.refusal_of.ensures.refusal c.in_ok-refusal_of.was).1
 
 pub returns : goal.returns
 returns c =
