@@ -65,9 +65,14 @@ class Edited:
         return naming(source, constants, True)
 
     def reached(self):
-        """The functions that the one that the edit is named after reaches by calls."""
+        """The functions that the one that the edit is named after reaches by calls, or by what it promises its answer at."""
         source = "\n".join(self.sources.values())
         calls = {n: set(re.findall(r"\b(\w+)(?:::<[^()]*?>)?\(", source[start:end])) for n, f, start, end in items(source) if f}
+        for name, is_function, start, end in items(source):
+            if is_function and calls[name] & {"from", "try_from"}:
+                calls[name] |= set(CONVERSION.findall(source))
+            if is_function:
+                calls[name] |= set(re.findall(r"\((\w+_of) ", "".join(re.findall(r"^ *ensures.*?\}$", source[start:end], re.M | re.S))))
         seen, left = set(), {self.named}
         while left:
             seen |= left
