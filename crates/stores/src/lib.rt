@@ -26,12 +26,20 @@ pub fn put_run(out: &mut [u8], at: usize, n: usize, b: u8)
 }
 
 // Lays the bytes of a slice over the buffer at an offset; changes nothing where they do not fit.
-// `put_bytes(out, 0, b"!E")` stores `!E`.
+// `put_bytes(out, 0, b"!E")` stores `!E`. By hand, since `copy_from_slice` needs `memmove`, which the C interface doesn't ask hosts for.
 pub fn put_bytes(out: &mut [u8], at: usize, bytes: &[u8])
     ensures { out.new ≡ stored_within out.old at bytes.now }
 {
-    if at <= out.len() && bytes.len() <= out.len() - at {
-        out[at..at + bytes.len()].copy_from_slice(bytes);
+    if out.len() < at {
+        return;
+    }
+    if out.len() - at < bytes.len() {
+        return;
+    }
+    let mut i: usize = 0;
+    while i < bytes.len() {
+        out[at + i] = bytes[i];
+        i = i + 1;
     }
 }
 
