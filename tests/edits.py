@@ -5,7 +5,6 @@ import re
 from typing import NamedTuple
 
 ROOT = pathlib.Path(__file__).resolve().parent.parent
-CONVERSION = re.compile(r"ghost (?:try_)?from_gives = \{ λ \w+ \w+\. \w+ ≡ (\w+) \w+ \};")
 IMPL = re.compile(r"^impl(?:<[^\n]*?>)? (?:Try)?From<([^\n]*)> for (\w+)[^\n]* \{$.*?^\}$", re.M | re.S)
 # The definition that the value is; `ok_or` makes its Option a Result.
 GIVES = re.compile(r"ghost (?:try_)?from_gives = \{ λ (\w+) (\w+)\. \2 ≡ (?:(\w+) \1|ok_or \((\w+) \1\) \w+) \};")
