@@ -4,12 +4,14 @@
 The machine code is that of target/staticlib/libvellanquor.a (or where VQ_LIB_DIR says) and goes through a list of what is known to
 be harmless. That each fault is found is shown on machine_code.s and on small sources.
 """
+import collections
 import os
 import pathlib
 import re
 import subprocess
 import sys
 import tempfile
+from typing import NamedTuple
 
 ROOT = pathlib.Path(__file__).resolve().parent.parent
 CRATE, NAME = "gateway", "vq_centidegrees"
@@ -104,28 +106,80 @@ FORBIDDEN = {r"/": "a division", r"%": "a remainder", r"\b(while|loop|for)\b": "
 KEYWORDS = {"if", "match", "return", "in", "as"}
 
 
+# A type of the crates', by its name or behind its crate's.
+TYPE = r"(?:[a-z]\w*::)?[A-Z]\w*"
+PARAMETER = re.compile(rf"\b(\w+): &?(?:mut )?(?:({TYPE})|Result<([\w:]+), ({TYPE})>)(?=[,)])")
+BINDING = re.compile(r"\blet\b([^=]*)=|\|([^|\n]*)\||^(.*?)=>", re.M)
+
+
+class Function(NamedTuple):
+    """A function's body, followed by the constants that it names; and the types that the text says, of names and of the error at `?`."""
+    body: str
+    types: dict
+
+
+def types_of(head, body, owner):
+    """The types of `self`, of the parameters, and, where all of the body is a match of one, of what its Ok and its Err hold; but not of
+    a name that is bound anew."""
+    bound = collections.Counter(re.findall(r"\w+", " ".join(" ".join(parts) for parts in BINDING.findall(body))))
+    head = re.split(r"\b(?:requires|ensures)\b", head)[0]
+    parameters = PARAMETER.findall(head)
+    types = {"self": owner} | {name: plain for name, plain, _, _ in parameters if plain and not bound[name]}
+    matched = re.fullmatch(r"\s*match (\w+) \{(.*)\}\s*", body, re.S)
+    for name, plain, right, wrong in parameters:
+        if not plain and matched and matched[1] == name and body.count("match") == 1:
+            arms = re.findall(r"\b(Ok|Err)\((\w+)\) =>", body)
+            types |= {held: {"Ok": right, "Err": wrong}[case] for case, held in arms if bound[held] == 1}
+    error = re.search(rf"-> Result<.*, ({TYPE})>", head)
+    return types | ({"?": error[1]} if error else {})
+
+
 def functions(text, indent, owner, constants):
-    """The bodies of the functions that stand this far in, each followed by the constants that it names."""
+    """The functions that stand this far in, by name; a name may have several."""
     parts = re.split(rf'^{indent}(?:pub )?(?:extern "C" )?fn (\w+)', text, flags=re.M)
-    bodies = {}
+    found = collections.defaultdict(list)
     for name, rest in zip(parts[1::2], parts[2::2]):
         body = re.search(rf"\{{$(.*?)^{indent}\}}$", rest, re.M | re.S)
-        body = body[1] if body else rest
+        head, body = (rest[:body.start()], body[1]) if body else ("", rest)
         named = [constants[word] for word in re.findall(r"\b[A-Z][A-Z0-9_]*\b", body) if word in constants]
-        bodies[owner + name] = "\n".join([body, *named])
-    return bodies
+        found[f"{owner}::{name}" if owner else name].append(Function("\n".join([body, *named]), types_of(head, body, owner)))
+    return found
 
 
 def parsed(text):
-    """The bodies of a source's functions, by their names, and of its types' methods, by type and name."""
+    """The functions of a source, by their names, and its types' methods, by type and name."""
     text = re.sub(r"//.*|/\*.*?\*/", "", text)
     for crate, name in re.findall(r"^use (\w+)::(\w+);", text, re.M):
-        text = re.sub(rf"(?<![\w:.]){name}(\s*\(|::)", rf"{crate}::{name}\1", text)
+        text = re.sub(rf"(?<![\w:.]){name}" + (r"\b" if name[0].isupper() else r"(?=(?:::<[^()]*?>)?\s*\()"), f"{crate}::{name}", text)
     constants = dict(re.findall(r"^(?:pub )?const (\w+)[^=]*=(.*?);", text, re.M | re.S))
-    bodies = functions(text, "", "", constants)
+    found = functions(text, "", "", constants)
     for owner, block in re.findall(r"^impl [^{]*?(\w+) \{$(.*?)^\}$", text, re.M | re.S):
-        bodies.update(functions(block, "    ", owner + "::", constants))
-    return bodies
+        for name, of_name in functions(block, "    ", owner, constants).items():
+            found[name] += of_name
+    return found
+
+
+def called(crates, crate, function):
+    """The functions that a function calls, by crate and name; None for a method of a type that the text does not say."""
+    for found in re.finditer(r"((?:\w+::)+|\.)?(\w+)(?:::<[^()]*?>)?\s*\(", function.body):
+        owner, name = found[1] or "", found[2]
+        # A capital letter makes a value; wrapping sums and products are the processor's own.
+        if name in KEYWORDS or name[0].isupper() or re.fullmatch(r"std::num::wrapping_(add|sub|mul)_\w+", owner + name):
+            continue
+        if owner == ".":
+            receiver = re.search(r"(?<![\w.)\]?])(\w+)$", function.body[:found.start()])
+            owner = function.types.get(receiver and receiver[1], "")
+            if not re.fullmatch(TYPE, owner):
+                yield None
+                continue
+            owner += "::"
+        path = re.fullmatch(r"(?:([a-z]\w*)::)?((?:[A-Z]\w*::)?)", owner)
+        yield (path[1] or crate, path[2] + name) if path else (owner + name, "")
+    # Behind `?` stands a conversion to the error's type, if there is one.
+    if "?" in function.body and "?" in function.types:
+        *other, error = function.types["?"].split("::")
+        if f"{error}::from" in crates.get(other[0] if other else crate, {}):
+            yield other[0] if other else crate, f"{error}::from"
 
 
 def source_fault(crates, crate, name, seen, path=()):
@@ -133,35 +187,30 @@ def source_fault(crates, crate, name, seen, path=()):
     here = f"{crate}::{name}"
     if here in path:
         return f"{here} calls itself"
-    body = crates.get(crate, {}).get(name)
-    if body is None:
+    of_name = crates.get(crate, {}).get(name, [])
+    if not of_name:
         return f"{here} is not found"
     seen.add(here)
-    for pattern, what in FORBIDDEN.items():
-        if re.search(pattern, body):
-            return f"{what} in {here}"
-    for owner, called in re.findall(r"((?:\w+::|\.)*)(\w+)\s*\(", body):
-        # A capital letter makes a value; wrapping sums and products are the processor's own.
-        if called in KEYWORDS or called[0].isupper() or re.fullmatch(r"std::num::wrapping_(add|sub|mul)_\w+", owner + called):
-            continue
-        if owner == ".":
-            # Every method of this name, whatever its type; std's are not looked into.
-            found = [(c, f) for c, bodies in crates.items() for f in bodies if f.endswith(f"::{called}")]
-            if not found:
-                return f"a method in {here}"
-        else:
-            path_of = re.fullmatch(r"((?:[a-z]\w*::)?)((?:[A-Z]\w*::)?)", owner)
-            if not path_of:
-                return f"{owner}{called} in {here} is not found"
-            found = [(path_of[1].removesuffix("::") or crate, path_of[2] + called)]
-        for place in found:
-            told = source_fault(crates, *place, seen, (*path, here))
+    for function in of_name:
+        for pattern, what in FORBIDDEN.items():
+            if re.search(pattern, function.body):
+                return f"{what} in {here}"
+        for place in called(crates, crate, function):
+            told = source_fault(crates, *place, seen, (*path, here)) if place else f"a method in {here}"
             if told != "right":
                 return told
     return "right"
 
 
-RIGHT = {"f": "g(n) + h(n) // n / 11 % 2", "g": "if (n < 1) { return TWO; }\n n >> 8", "h": "Some(n.halved())", "halved": "self >> 1"}
+RIGHT = {
+    "f": "g(n) + h(n) // n / 11 % 2",
+    "g": "if (n < 1) { return TWO; }\n n >> 8",
+    "h": "Some(x.halved()) + Number::from(n)?",
+    "halved": "self >> 1",
+    "from": "match r {\n Ok(m) => m,\n Err(e) => e.halved(),\n }",
+    "again": "self.halved()",
+    "error": "n + 1",
+}
 WRONG = [
     ("a division in a::f", {"f": "n / 11"}),
     ("a division in b::h", {"h": "n / 11"}),
@@ -179,16 +228,39 @@ WRONG = [
     ("a division in b::Number::halved", {"halved": "self / 2"}),
     ("a loop in b::Number::halved", {"g": "b::Number::halved(n)", "halved": "loop { }"}),
     ("b::Number::third is not found", {"g": "b::Number::third(n)"}),
+    ("b::Number::third is not found", {"h": "x.third()"}),
+    # A method of a type that the text does not say, though a type has one of that name.
+    ("a method in b::h", {"h": "n.halved()"}),
+    ("a method in b::h", {"h": "2.halved()"}),
+    ("a method in b::h", {"h": "x.half.halved()"}),
+    ("a method in b::h", {"h": "Some(x).halved()"}),
+    ("a method in b::h", {"h": "let x = n;\n x.halved()"}),
+    ("a method in b::h", {"h": "Some(|x| x.halved())"}),
+    ("a method in b::h", {"h": "match r {\n Ok(m) => m.halved(),\n Err(e) => 0,\n }"}),
+    ("a method in b::h", {"h": "match n {\n Ok(m) => 0,\n Err(e) => e.halved(),\n }"}),
+    # Of two conversions to a type each is gone into, and the one to an error behind a `?`.
+    ("a division in b::Number::from", {"from": "r / 2"}),
+    ("a division in b::Number::from", {"again": "self / 2"}),
+    ("a division in b::Error::from", {"error": "n / 2"}),
+    # A call says a type parameter.
+    ("a division in b::h", {"f": "b::h::<u32>(n)", "h": "n / 11"}),
 ]
 
 
 def wrong_sources():
     """How many small sources have a fault; each must be told."""
     for expected, changed in [("right", {}), *WRONG]:
-        *free, method = (RIGHT | changed).items()
-        f, g, h = [f"\npub fn {name}(n: u32) -> u32\n    ensures {{ n / 2 }}\n{{\n    {body}\n}}\n" for name, body in free]
-        halved = f"\nimpl Half for Number {{\n    fn {method[0]}(self) -> u32 {{\n        {method[1]}\n    }}\n}}\n"
-        crates = {"a": parsed("use b::h;\nconst TWO: u32 = 2;\nconst HALF: u32 = TWO / 2;\n" + f + g), "b": parsed(h + halved)}
+        body = RIGHT | changed
+        parameters = "(n: u32, x: &Number, r: Result<u32, Number>) -> Result<u32, Error>"
+        f, g, h = [f"\npub fn {name}{parameters}\n    ensures {{ n / 2 }}\n{{\n    {body[name]}\n}}\n" for name in ("f", "g", "h")]
+        methods = [
+            ("Half for Number", "halved(self) -> u32", body["halved"]),
+            ("From<Result<u32, Number>> for Number", "from(r: Result<u32, Number>) -> Number", body["from"]),
+            ("From<Half> for Number", "from(self) -> Number", body["again"]),
+            ("From<u32> for Error", "from(n: u32) -> Error", body["error"]),
+        ]
+        impls = "".join(f"\nimpl {head} {{\n    fn {name} {{\n        {text}\n    }}\n}}\n" for head, name, text in methods)
+        crates = {"a": parsed("use b::h;\nconst TWO: u32 = 2;\nconst HALF: u32 = TWO / 2;\n" + f + g), "b": parsed(h + impls)}
         told = source_fault(crates, "a", "f", set())
         if told != expected:
             sys.exit(f"machine_code: a source with {changed} should be told as: {expected}; is told as: {told}")
