@@ -9,7 +9,7 @@ use Rattle.form.specs.declared.Judgement.{Judgement}
 use Rattle.form.specs.declared.Judgement.TheVariants.{Whole, Bad, Waiting}
 use Rattle.form.specs.Form.{Form, whole, byte, ◌>>=◌, judge, judge_at}
 use Rattle.form.specs.Pieces.{one}
-use Rattle.form.proofs.PieceLaws.{byte_step, byte_ends, go_on}
+use Rattle.form.proofs.PieceLaws.{byte_step, byte_ends, go_on, halt, Halted}
 use Rattle.sirad.proofs.Runs.{run_all}
 use Rattle.sirad.specs.Classes.{Hex, Char, Zero, Cr, Lf, accepts, reason}
 use Rattle.sirad.specs.declared.Kind.{Kind}
@@ -145,6 +145,13 @@ module _ (at : ℕ) (s : List ℕ) where
 pub blocks_next : (i n : ℕ) → i < n → row (blocks (n - i)) 4 ≡ (block >>= (λ _. row (blocks (n - (i + 1))) 4))
 unfolding row blocks
 blocks_next i n h = let e : n - i ≡ suc (n - (i + 1)) = omega arith in rw e
+
+module _ (n at : ℕ) (s : List ℕ) where
+  -- the next block does not stand: its judgement is that of all
+  pub blocks_halt : {r : Judgement} → 0 < n → r ≡ judge_at block at s → Halted r → r ≡ judge_at (row (blocks n) 4) at s
+  blocks_halt h a o =
+      let e : n - 0 ≡ n = omega arith in
+      halt _ _ _ _ a o ∙ sym (ap (λ (p : Form). judge_at p at s) (rw e at (blocks_next 0 n h)))
 
 -- behind all blocks: the stop marker
 pub blocks_over : (i n : ℕ) → n ≤ i → row (blocks (n - i)) 4 ≡ row ending 4

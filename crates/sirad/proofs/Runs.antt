@@ -3,10 +3,11 @@ use Rattle.std.proofs.Common.{Bool, true, false, cond, ◌≡◌, refl, sym, ap,
 use Rattle.std.proofs.Common.{ℕ, zero, suc, ◌+◌, ◌-◌, ◌<◌, ◌≤◌, arith}
 use Rattle.std.specs.List.{list_all, slice_range}
 use Rattle.digits.proofs.Choices.{and_left, and_right}
+use Rattle.form.specs.declared.Judgement.{Judgement}
 use Rattle.form.specs.declared.Judgement.TheVariants.{Whole, Bad, Waiting}
 use Rattle.form.specs.Form.{Form, whole, byte, ◌>>=◌, judge, judge_at}
 use Rattle.form.specs.Pieces.{one}
-use Rattle.form.proofs.PieceLaws.{byte_step, byte_ends}
+use Rattle.form.proofs.PieceLaws.{byte_step, byte_ends, halt, Halted}
 use Rattle.sirad.specs.Classes.{Class, accepts, reason}
 use Rattle.sirad.specs.Sirad.{run}
 
@@ -50,6 +51,13 @@ pub run_next : (i n : ℕ) (c : Class) → i < n → run (n - i) c ≡ (one (rea
 unfolding run ◌>>=◌
 run_next i n c h = let e : n - i ≡ suc (n - (i + 1)) = omega arith in rw e
 
+module _ (n : ℕ) (c : Class) (at : ℕ) (s : List ℕ) where
+  -- the next byte does not pass: its judgement is that of the run
+  pub run_halts : {r : Judgement} → 0 < n → r ≡ judge_at (one (reason c) (accepts c)) at s → Halted r → r ≡ judge_at (run n c) at s
+  run_halts h a o =
+      let e : n - 0 ≡ n = omega arith in
+      halt _ _ _ _ a o ∙ sym (ap (λ (p : Form). judge_at p at s) (rw e at (run_next 0 n c h)))
+
 run_split : (m n : ℕ) (c : Class) → m ≤ n → run n c ≡ (run m c >>= (λ _. run (n - m) c))
 unfolding run ◌>>=◌
 run_split zero n c h = let e : n - 0 ≡ n = omega arith in rw e
@@ -61,6 +69,11 @@ run_split (suc m) (suc n) c h =
 -- behind i bytes of a run the m up to byte k are judged, and then what is left
 pub run_part : (m i k n : ℕ) (c : Class) → i + m ≡ k → k ≤ n → run (n - i) c ≡ (run m c >>= (λ _. run (n - k) c))
 run_part m i k n c e h = run_split m (n - i) c (omega arith) ∙ (let d : n - i - m ≡ n - k = omega arith in rw d)
+
+module _ (m n : ℕ) (c : Class) (at : ℕ) (s : List ℕ) (h : m ≤ n) where
+  -- one of the first m bytes does not pass
+  pub part_halts : {r : Judgement} → r ≡ judge_at (run m c) at s → Halted r → r ≡ judge_at (run n c) at s
+  part_halts a o = halt _ _ _ _ a o ∙ sym (ap (λ (p : Form). judge_at p at s) (run_split m n c h))
 
 -- behind all of them nothing is left
 pub run_over : (i n : ℕ) (c : Class) → n ≤ i → run (n - i) c ≡ whole 0

@@ -31,6 +31,7 @@ pub trait ByteClass {
 }
 
 // The upper-case hex digits.
+#[derive(Clone, Copy)]
 pub struct HexDigit;
 
 impl ByteClass for HexDigit {
@@ -46,6 +47,7 @@ impl ByteClass for HexDigit {
 }
 
 // The bytes 34 to 254.
+#[derive(Clone, Copy)]
 pub struct Character;
 
 impl ByteClass for Character {
@@ -61,6 +63,7 @@ impl ByteClass for Character {
 }
 
 // The value 0, of which an empty block has all its bytes.
+#[derive(Clone, Copy)]
 pub struct ZeroByte;
 
 impl ByteClass for ZeroByte {

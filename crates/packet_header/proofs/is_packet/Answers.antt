@@ -1,4 +1,5 @@
 -- `packet_header::is_packet` meets its contract: the judgement taken apart.
+use Rattle.std.proofs.Common.{sym}
 use Rattle.packet.proofs.FieldLaws.{other_named, not_whole, other_kind, same_kind}
 use Rattle.packet_header.proofs.is_packet.Goals as goal
 
@@ -7,7 +8,7 @@ returns-in_default c = other_named _ _ c.dialect_named.ensures c.in_default.is
 
 pub returns-in_default-judge : goal.returns-in_default-judge
 returns-in_default-judge c =
-    not_whole _ _ c.dialect_named.ensures c.in-Some.is c.judge.ensures.answers c.in_default-judge.not-Whole
+    sym (not_whole _ _ c.dialect_named.ensures c.in-Some.is c.judge.ensures.answers c.in_default-judge.not-Whole)
 
 pub returns-then-found-kind : goal.returns-then-found-kind
 returns-then-found-kind c =
