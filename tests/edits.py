@@ -4,8 +4,8 @@ import pathlib
 import re
 
 ROOT = pathlib.Path(__file__).resolve().parent.parent
-# An impl of From or TryFrom goes by the definition that it gives.
-CONVERSION = re.compile(r"ghost (?:try_)?from_gives = \{ λ \w+ \w+\. \w+ ≡ (\w+) \w+ \};")
+# An impl of From or TryFrom goes by the definition that it gives, or that says where it gives no refusal.
+CONVERSION = re.compile(r"ghost (?:try_)?from_gives = \{ λ \w+ \w+\. \w+ ≡ (?:ok_or \()?(\w+) \w+(?:\) \w+)? \};")
 
 
 def edits(crate):
