@@ -1,4 +1,4 @@
--- A writer's answer by the check of its values and its room (`stores::refusal_of`).
+-- A writer's answer by the check of its values and its room (`stores::with_room`).
 use Rattle.std.proofs.Common.{◌≡◌, ℕ, ◌≤◌, List, length, ap, sym, ◌∙◌, Result, Ok, Err}
 use Rattle.refusals.specs.declared.Refusal.{Refusal}
 use Rattle.refusals.specs.Numbers.{refusal_number}

@@ -47,7 +47,7 @@ pub fn write_status(out: &mut [u8], values: StatusValues) -> Result<usize, Refus
     ensures { Writes (status_refusal (values_sent values))
         (status_bytes (values_sent values)) out.old (written_of result) out.new }
 {
-    stores::refusal_of(check_status(values), STATUS_SIZE, out.len())?;
+    stores::with_room(check_status(values), STATUS_SIZE, out.len())?;
     put_status(out, values);
     Ok(STATUS_SIZE)
 }
@@ -67,7 +67,7 @@ fn put_error(out: &mut [u8], flags: u16)
 pub fn write_error(out: &mut [u8], flags: u16) -> Result<usize, Refusal>
     ensures { Writes (error_refusal flags) (error_bytes flags) out.old (written_of result) out.new }
 {
-    stores::refusal_of(Ok(()), ERROR_SIZE, out.len())?;
+    stores::with_room(Ok(()), ERROR_SIZE, out.len())?;
     put_error(out, flags);
     Ok(ERROR_SIZE)
 }

@@ -67,7 +67,7 @@ pub fn write_data(out: &mut [u8], kind: u32, content: &[u8]) -> Result<usize, Re
         (data_bytes kind content.now) out.old (written_of result) out.new }
 {
     let size = 16 + content.len();
-    let known = stores::refusal_of(check_data(kind, content), size, out.len())?;
+    let known = stores::with_room(check_data(kind, content), size, out.len())?;
     put_data(out, known, content);
     Ok(size)
 }

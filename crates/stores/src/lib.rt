@@ -43,9 +43,23 @@ pub fn put_bytes(out: &mut [u8], at: usize, bytes: &[u8])
     }
 }
 
+// The refusal of a writer of so many bytes: that of its values, if there is one, else 51 where the room is too short.
+// `refusal_of(0, 26, 25)` is 51.
+pub fn refusal_of(unfit: u32, size: usize, room: usize) -> u32
+    ensures { result ≡ writer_refusal unfit size room }
+{
+    if unfit != 0 {
+        return unfit;
+    }
+    if room < size {
+        return Refusal::OutputTooShort.number();
+    }
+    0
+}
+
 // What the check of a writer's values gave, where the output has room for so many bytes: the values' refusal comes first.
-// `refusal_of(Ok(()), 26, 25)` is refused, `refusal_of(Ok(()), 26, 26)` is not.
-pub fn refusal_of<T: Copy>(
+// `with_room(Ok(()), 26, 25)` is refused, `with_room(Ok(()), 26, 26)` is not.
+pub fn with_room<T: Copy>(
     values: Result<T, Refusal>,
     size: usize,
     room: usize,
@@ -54,7 +68,7 @@ pub fn refusal_of<T: Copy>(
     ensures value { IfOk result (λ x. values ≡ Ok x) }
 {
     let value = values?;
-    if room < size {
+    if size > room {
         return Err(Refusal::OutputTooShort);
     }
     Ok(value)

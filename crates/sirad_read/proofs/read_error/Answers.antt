@@ -1,15 +1,21 @@
--- Not exactly one whole frame, one of another kind, or its flags.
-use Rattle.std.proofs.lemmas.Result.{err_from_is_err_and}
-use Rattle.sirad_fields.proofs.ReadingLaws.{error_unframed, error_other, error_made}
+-- Not judged whole, bytes left, a frame of another kind, or its flags.
+use Rattle.std.proofs.Common.{refl}
+use Rattle.sirad_fields.proofs.ReadingLaws.{halted_kind, other_size, no_frame, one_frame, error_unframed, error_other, error_made}
 use Rattle.sirad_read.proofs.read_error.Goals as goal
 
-pub returns-in_err-kind : goal.returns-in_err-kind
-returns-in_err-kind c =
-    let p = err_from_is_err_and c.from_residual.result c.from_residual.ensures.1 in
-    rw (p.1, p.2) (error_unframed _ c.whole_frame.ensures c.in_err-kind.was)
+pub returns-in_default : goal.returns-in_default
+returns-in_default c = error_unframed _ refl (no_frame _ (halted_kind _ c.judge.ensures.answers c.in_default.not-Whole))
+
+pub returns-then-length-frame : goal.returns-then-length-frame
+returns-then-length-frame c =
+    error_unframed _ refl (no_frame _ (other_size _ c.judge.ensures.answers c.in-Whole.is c.if-length-frame.true))
 
 pub returns-then-kind-ne-ERROR : goal.returns-then-kind-ne-ERROR
-returns-then-kind-ne-ERROR c = error_other _ c.whole_frame.ensures c.in_ok-kind.was c.if-kind-ne-ERROR.true
+returns-then-kind-ne-ERROR c =
+    let one = one_frame _ c.judge.ensures.answers c.in-Whole.is c.if-length-frame.false in
+    error_other _ refl one c.if-kind-ne-ERROR.true
 
 pub returns : goal.returns
-returns c = error_made _ c.whole_frame.ensures c.in_ok-kind.was c.if-kind-ne-ERROR.false c.number_at.ensures
+returns c =
+    let one = one_frame _ c.judge.ensures.answers c.in-Whole.is c.if-length-frame.false in
+    error_made _ refl one c.if-kind-ne-ERROR.false c.number_at.ensures

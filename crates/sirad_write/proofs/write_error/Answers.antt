@@ -7,21 +7,21 @@ use Rattle.sirad_fields.proofs.WritingLaws.{error_fits}
 use Rattle.sirad_fields.proofs.AnswerLaws.{answer_refused, answer_fits, answer_stored}
 use Rattle.sirad_write.proofs.write_error.Goals as goal
 
-pub returns-in_err-refusal_of : goal.returns-in_err-refusal_of
-returns-in_err-refusal_of c =
+pub returns-in_err-with_room : goal.returns-in_err-with_room
+returns-in_err-with_room c =
     let p = err_from_is_err_and c.from_residual.result c.from_residual.ensures.1 in
     let flags = c.args.flags in
     let fits = sym (error_fits flags (omega arith)) in
-    rw (p.1, p.2) (answer_refused _ _ _ 8 (error_size flags) fits c.refusal_of.ensures.refusal c.in_err-refusal_of.was)
+    rw (p.1, p.2) (answer_refused _ _ _ 8 (error_size flags) fits c.with_room.ensures.refusal c.in_err-with_room.was)
 
 pub put_error-requires : goal.put_error-requires
 put_error-requires c =
     let flags = c.args.flags in
     let fits = sym (error_fits flags (omega arith)) in
-    (answer_fits _ (error_bytes flags) c.args.out.now 8 (error_size flags) fits c.refusal_of.ensures.refusal c.in_ok-refusal_of.was).1
+    (answer_fits _ (error_bytes flags) c.args.out.now 8 (error_size flags) fits c.with_room.ensures.refusal c.in_ok-with_room.was).1
 
 pub returns : goal.returns
 returns c =
     let flags = c.args.flags in
     let fits = sym (error_fits flags (omega arith)) in
-    answer_stored _ _ _ 8 (error_size flags) fits c.refusal_of.ensures.refusal c.in_ok-refusal_of.was c.put_error.ensures
+    answer_stored _ _ _ 8 (error_size flags) fits c.with_room.ensures.refusal c.in_ok-with_room.was c.put_error.ensures

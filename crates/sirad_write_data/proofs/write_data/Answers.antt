@@ -13,7 +13,7 @@ returns-in_err-known c =
     let cs = c.args.content.now in
     let size = data_size c.args.kind cs in
     let values = c.check_data.ensures.refusal in
-    rw (p.1, p.2) (answer_refused _ _ _ (16 + length cs) size values c.refusal_of.ensures.refusal c.in_err-known.was)
+    rw (p.1, p.2) (answer_refused _ _ _ (16 + length cs) size values c.with_room.ensures.refusal c.in_err-known.was)
 
 pub put_data-requires : goal.put_data-requires
 put_data-requires c =
@@ -21,7 +21,7 @@ put_data-requires c =
     let cs = a.content.now in
     let size = data_size a.kind cs in
     let values = c.check_data.ensures.refusal in
-    let fits = answer_fits _ _ a.out.now (16 + length cs) size values c.refusal_of.ensures.refusal c.in_ok-known.was in
+    let fits = answer_fits _ _ a.out.now (16 + length cs) size values c.with_room.ensures.refusal c.in_ok-known.was in
     ((data_fits a.kind cs fits.0).count, fits.1)
 
 pub returns : goal.returns
@@ -31,4 +31,4 @@ returns c =
     let values = c.check_data.ensures in
     let kind = subst (λ r. IfOk r (λ known. kind_number known ≡ c.args.kind)) c.in_ok-known.ensures.value values.kind in
     let put = rw kind at c.put_data.ensures in
-    answer_stored _ _ _ (16 + length cs) size values.refusal c.refusal_of.ensures.refusal c.in_ok-known.was put
+    answer_stored _ _ _ (16 + length cs) size values.refusal c.with_room.ensures.refusal c.in_ok-known.was put
