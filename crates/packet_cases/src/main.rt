@@ -6,7 +6,7 @@
 
 use case_input::{case_at, case_end};
 use packet::{Cursor, PacketHeader, PacketRecord, PacketStep, Points, Record};
-use packet_reader::PacketReader;
+use packet_reader::{PacketReader, first_step};
 use refusals::Refusal;
 use std::io;
 use std::io::Read;
@@ -41,12 +41,14 @@ fn read_kind(rt: &impl Print, kind: u32, s: &[u8]) -> io::Result<()> {
     let header = PacketHeader::from(packet_header::header(kind, s));
     print!(rt; "kind {} header {} first", kind, header.refusal)?;
     let mut reader = PacketReader::new(kind, s);
-    let first = reader.step();
-    let mut cursor = Cursor { at: reader.at };
-    print_step(rt, first, cursor)?;
+    let first = first_step(kind, s);
+    if let Ok(record) = first {
+        reader.at = record.start + record.length;
+    }
+    print_step(rt, first, Cursor { at: reader.at })?;
     rt.print(" next")?;
-    let next = packet_fields::step(kind, s, &mut cursor);
-    print_step(rt, next, cursor)?;
+    let next = reader.step();
+    print_step(rt, next, Cursor { at: reader.at })?;
     print_record(rt, packet_fields::record(kind, s, 1))?;
     rt.print("\n")
 }

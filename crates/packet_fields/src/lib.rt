@@ -9,7 +9,7 @@ ghost use Rattle.packet.specs.Internal.{Walkable};
 
 use mmwave::Header;
 use packet::{Cursor, Record};
-use packet_header::{RECORD_HEADER, check_packet, payload_length};
+use packet_header::{Judgement, RECORD_HEADER, dialect_named, judge, payload_length};
 use refusals::Refusal;
 
 // -- The walk over the records
@@ -81,7 +81,18 @@ fn read_record(s: &[u8], index: usize) -> Result<Record, Refusal>
 pub fn record(kind: u32, packet: &[u8], index: usize) -> Result<Record, Refusal>
     ensures { RecordShown kind packet.now index (packet_record_of result) }
 {
-    check_packet(kind, packet)?;
+    let Some(d) = dialect_named(kind) else {
+        return Err(Refusal::NotOneFrame);
+    };
+    let Judgement::Whole(found, length) = judge(packet, d) else {
+        return Err(Refusal::NotOneFrame);
+    };
+    if found != kind {
+        return Err(Refusal::NotOneFrame);
+    }
+    if length != packet.len() {
+        return Err(Refusal::NotOneFrame);
+    }
     read_record(packet, index)
 }
 
@@ -103,7 +114,18 @@ fn read_step(s: &[u8], at: usize) -> Result<Record, Refusal>
 pub fn peek(kind: u32, packet: &[u8], cursor: Cursor) -> Result<Record, Refusal>
     ensures { StepShown kind packet.now cursor.at (packet_step_of result (cursor_behind cursor.at result)) }
 {
-    check_packet(kind, packet)?;
+    let Some(d) = dialect_named(kind) else {
+        return Err(Refusal::NotOneFrame);
+    };
+    let Judgement::Whole(found, length) = judge(packet, d) else {
+        return Err(Refusal::NotOneFrame);
+    };
+    if found != kind {
+        return Err(Refusal::NotOneFrame);
+    }
+    if length != packet.len() {
+        return Err(Refusal::NotOneFrame);
+    }
     read_step(packet, cursor.at)
 }
 

@@ -6,10 +6,13 @@ ghost use Rattle.refusals.specs.declared.Refusal.TheVariants.{NotOneFrame};
 ghost use Rattle.packet.specs.Walk.{length_at};
 ghost use Rattle.packet.specs.Fields.{dialect_named, is_packet, packet_header_of, header_shown, header_of};
 
-use form::Judgement;
 use mmwave::{Header, PacketDialect};
 use mmwave_dialects::{KIND, VITAL_KIND};
 use refusals::Refusal;
+
+// The judgement, which the readers of records and points take apart too.
+pub use form::Judgement;
+pub use mmwave_judge::judge;
 
 // A record's header: type and payload length.
 pub const RECORD_HEADER: usize = 8;
@@ -39,13 +42,13 @@ fn is_packet(kind: u32, packet: &[u8]) -> bool
     let Some(dialect) = dialect_named(kind) else {
         return false;
     };
-    let Judgement::Whole(found, length) = mmwave_judge::judge(packet, dialect) else {
+    let Judgement::Whole(found, length) = judge(packet, dialect) else {
         return false;
     };
     found == kind && length == packet.len()
 }
 
-// The test that each field reader of packets begins with: 5 if the slice is not exactly one whole packet of this kind.
+// 5 if the slice is not exactly one whole packet of this kind, 16 or 17.
 pub fn check_packet(kind: u32, packet: &[u8]) -> Result<(), Refusal>
     ensures { result ≡ cond (is_packet kind packet.now) (Ok tt) (Err NotOneFrame) }
 {
@@ -78,7 +81,18 @@ fn read_header(s: &[u8]) -> Header
 pub fn header(kind: u32, packet: &[u8]) -> Result<Header, Refusal>
     ensures { packet_header_of result ≡ header_of kind packet.now }
 {
-    check_packet(kind, packet)?;
+    let Some(d) = dialect_named(kind) else {
+        return Err(Refusal::NotOneFrame);
+    };
+    let Judgement::Whole(found, length) = judge(packet, d) else {
+        return Err(Refusal::NotOneFrame);
+    };
+    if found != kind {
+        return Err(Refusal::NotOneFrame);
+    }
+    if length != packet.len() {
+        return Err(Refusal::NotOneFrame);
+    }
     Ok(read_header(packet))
 }
 
