@@ -7,9 +7,11 @@ ghost use Rattle.packet.specs.Fields.{packet_record_of, record_shown, record_rea
 ghost use Rattle.packet.specs.Fields.{packet_step_of, cursor_behind, step_read, StepShown};
 ghost use Rattle.packet.specs.Internal.{Walkable};
 
+use form::Judgement;
 use mmwave::Header;
+use mmwave_judge::judge;
 use packet::{Cursor, Record};
-use packet_header::{Judgement, RECORD_HEADER, dialect_named, judge, payload_length};
+use packet_header::{RECORD_HEADER, dialect_named, payload_length};
 use refusals::Refusal;
 
 // -- The walk over the records

@@ -6,13 +6,11 @@ ghost use Rattle.refusals.specs.declared.Refusal.TheVariants.{NotOneFrame};
 ghost use Rattle.packet.specs.Walk.{length_at};
 ghost use Rattle.packet.specs.Fields.{dialect_named, is_packet, packet_header_of, header_shown, header_of};
 
+use form::Judgement;
 use mmwave::{Header, PacketDialect};
 use mmwave_dialects::{KIND, VITAL_KIND};
+use mmwave_judge::judge;
 use refusals::Refusal;
-
-// The judgement, which the readers of records and points take apart too.
-pub use form::Judgement;
-pub use mmwave_judge::judge;
 
 // A record's header: type and payload length.
 pub const RECORD_HEADER: usize = 8;
