@@ -25,7 +25,7 @@ pub extern "C" fn vq_judge(dialect: u32, bytes: &[u8], offset: usize) -> Judgeme
 pub extern "C" fn vq_millimetres(edition: u32, bits: u32) -> Quantity
     ensures { result ≡ millimetres edition bits }
 {
-    Quantity::from(units::coordinate_to_millimetres(edition, bits))
+    units::coordinate_quantity(edition, bits)
 }
 
 // What a character means as a phase, in hundredths of a degree, or the refusal number: 90 (`Z`) is -8836, and 33 is refused with 50.

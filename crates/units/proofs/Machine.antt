@@ -10,7 +10,8 @@ use Rattle.digits.proofs.Choices.{test, both_ways}
 use Rattle.units.specs.contracts.Ties.{the_type}
 use Rattle.units.specs.Rounding.{signed, Ties, ToAway, ToEven, half_up, nearest}
 use Rattle.units.specs.Float.{negative, exponent, fraction, magnitude}
-use Rattle.units.specs.Units.{value, quantity_of, coordinate}
+use Rattle.refusals.specs.Numbers.{refusal_number}
+use Rattle.units.specs.Units.{value, refused, quantity_of, coordinate}
 use Rattle.units.specs.Internal.{Inside, parts, outside}
 use Rattle.units.proofs.Rounding.{half_most, fixed, nearest_scaled}
 use Rattle.units.proofs.Bits.{normal, within_limit, limit_bits, infinite_bits, below_least}
@@ -110,6 +111,19 @@ coordinate_outside ties bits over near fits far =
     (λ u.
     let finite = leb-false (0x7F800000 - 0x39800000) over u in
     simp (t, u, lt-leb 0x7F800000 (bits % 2 ^ 31) (omega arith), lt-ltb 0x447A0000 (bits % 2 ^ 31) (omega arith)))))
+
+-- in numbers: the refusal's, and the value 0
+outside_numbers : (over : ℕ) → refused (refusal_number (outside over)) ≡ quantity_of (outside over)
+outside_numbers over =
+    test
+    (leb (2 ^ 31 - 0x39800000) over)
+    (λ t. simp t)
+    (λ t. test (leb (0x7F800000 - 0x39800000) over) (λ u. simp (t, u)) (λ u. simp (t, u)))
+
+-- so is what is outside by its number
+pub quantity_outside : (ties : Ties) (bits over n : ℕ) → n ≡ refusal_number (outside over) → 0x447A0000 - 0x39800000 < over
+    → (over + 0x39800000) % 2 ^ 31 ≡ bits % 2 ^ 31 → over < 2 ^ 31 → refused n ≡ coordinate ties bits
+quantity_outside ties bits over n e far near fits = ap refused e ∙ outside_numbers over ∙ coordinate_outside ties bits over near fits far
 
 -- 125 * 2 ^ 118 is 1000 * 2 ^ 115
 scaled : (m s : ℕ) → 125 * m * 2 ^ s * 2 ^ 118 ≡ 1000 * (m * 2 ^ (115 + s))

@@ -4,6 +4,7 @@
 #![tactic(auto)]
 
 ghost use Rattle.std.specs.Prelude.{◌≡◌, ◌*◌, ◌^◌, ◌<◌, ◌≤◌, Ok};
+ghost use Rattle.refusals.specs.Numbers.{refusal_number};
 ghost use Rattle.units.specs.Rounding.{signed, half_up, nearest};
 ghost use Rattle.units.specs.Float.{magnitude};
 ghost use Rattle.units.specs.Units.{quantity_of, ties_named, accuracy_millimetres, coordinate, millimetres};
@@ -129,6 +130,19 @@ fn outside(over: u32) -> Result<i32, Refusal>
     Err(Refusal::TooFar)
 }
 
+// The number of that refusal, or 0 where there is none: by two tests of which none is a branch.
+fn outside_number(over: u32) -> u32
+    ensures { result ≡ refusal_number (outside over) }
+{
+    if SIGN - LEAST_BITS <= over {
+        return 0;
+    }
+    if INFINITE_BITS - LEAST_BITS <= over {
+        return Refusal::NotFinite.number();
+    }
+    Refusal::TooFar.number()
+}
+
 // The parts of a coordinate from LEAST_BITS to LIMIT_BITS; `over` is what its magnitude's bits are over LEAST_BITS.
 fn parts_of(bits: u32, over: u32) -> u64
     requires { Inside bits over }
@@ -175,5 +189,41 @@ pub fn coordinate_to_millimetres(edition: u32, bits: u32) -> Result<i32, Refusal
     match Ties::try_from(edition)? {
         Ties::ToAway => millimetres_by(Ties::ToAway, bits),
         Ties::ToEven => millimetres_by(Ties::ToEven, bits),
+    }
+}
+
+// -- In numbers
+
+// A coordinate in millimetres, halves by a rule.
+fn quantity_by(ties: Ties, bits: u32) -> Quantity
+    ensures { result ≡ coordinate ties bits }
+{
+    let over = bits.wrapping_sub(LEAST_BITS) % SIGN;
+    if LIMIT_BITS - LEAST_BITS < over {
+        return Quantity {
+            refusal: outside_number(over),
+            value: 0,
+        };
+    }
+    let whole = inside(ties, bits, over);
+    Quantity {
+        refusal: 0,
+        value: signed(SIGN <= bits, whole),
+    }
+}
+
+// The same in numbers, as a host in C is answered. By a `Result` the processor guesses at each float outside whether it is refused, and on
+// any floats guesses wrong every other time.
+#[tactic(auto, unfolding(crate::specs::Units::ties_named, crate::specs::Units::millimetres))]
+pub fn coordinate_quantity(edition: u32, bits: u32) -> Quantity
+    ensures { result ≡ millimetres edition bits }
+{
+    match Ties::try_from(edition) {
+        Ok(Ties::ToAway) => quantity_by(Ties::ToAway, bits),
+        Ok(Ties::ToEven) => quantity_by(Ties::ToEven, bits),
+        Err(refusal) => Quantity {
+            refusal: refusal.number(),
+            value: 0,
+        },
     }
 }
