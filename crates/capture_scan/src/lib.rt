@@ -43,8 +43,25 @@ fn few(bytes: &[u8], from: usize, n: usize, mark: u8) -> usize
     end
 }
 
+// Passes runs of 64 bytes without the mark.
+fn pass_runs(bytes: &[u8], from: usize, mark: u8) -> usize
+    requires { from ≤ length bytes.now }
+    ensures { (from ≤ result) × (result ≤ length bytes.now) × Clear mark from result bytes.now }
+{
+    let mut at = from;
+    while 64 <= bytes.len() - at {
+        let clear = misses(bytes, at, 64, mark);
+        if clear {
+            at += 64;
+        } else {
+            return at;
+        }
+    }
+    at
+}
+
 // The offset of the next mark at or behind `from`, or of the end (`from` where it is beyond).
-// Marks close to each other are met byte by byte, others 32 bytes at a time.
+// Marks close to each other are met byte by byte, others 64 and then 32 bytes at a time.
 pub fn find(bytes: &[u8], from: usize, mark: u8) -> usize
     ensures { result ≡ next_mark mark from bytes.now }
 {
@@ -55,7 +72,7 @@ pub fn find(bytes: &[u8], from: usize, mark: u8) -> usize
     if near - from < 16 {
         return near;
     }
-    let mut at = near;
+    let mut at = pass_runs(bytes, near, mark);
     while 32 <= bytes.len() - at {
         let clear = misses(bytes, at, 32, mark);
         if clear {

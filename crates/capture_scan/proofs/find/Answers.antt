@@ -16,7 +16,9 @@ returns-then-near-from-lt16 c =
     next_at _ _ _ _ _ (omega arith) f.0 f.1 (clear_none _ _ _) f.2 (λ w. c.few-near.ensures.result_value (omega arith) w)
 
 pub loop-at-init : goal.loop-at-init
-loop-at-init c = c.few-near.ensures.lower_bound
+loop-at-init c =
+    let f = c.few-near.ensures.lower_bound in let p = c.pass_runs-at.ensures in
+    (omega (arith, f.0, p.0), p.1, clear_join _ _ _ _ _ f.2 p.2)
 
 pub loop-at-preserved : goal.loop-at-preserved
 loop-at-preserved c =
