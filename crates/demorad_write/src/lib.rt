@@ -1,7 +1,7 @@
 // Writes DemoRad commands (paper 01, "DemoRad"; document 001, section 2.1.1).
 #![tactic(auto)]
 
-ghost use Rattle.std.specs.Prelude.{◌≡◌, ◌+◌, ◌*◌, ◌<◌, ◌≤◌, length};
+ghost use Rattle.std.specs.Prelude.{◌≡◌, ◌+◌, ◌*◌, ◌<◌, ◌≤◌, length, take};
 ghost use Rattle.digits.specs.Stores.{Writes, written_of, stored};
 ghost use Rattle.demorad.specs.Rules.{legality, max_payload};
 ghost use Rattle.demorad.specs.Image.{header_word, word_bytes, command_bytes};
@@ -17,12 +17,12 @@ fn header_word(rd: bool, code: u32, count: u32) -> u32
     u32::from(rd) * demorad::RD + (count + 1) * demorad::LENGTH + code
 }
 
-// Lays the payload words over the buffer behind the header.
-fn put_payload(out: &mut [u8], words: &[u32])
-    requires { 4 + 4 * length words.now ≤ length out.old }
-    ensures { out.new ≡ stored out.old 4 (word_bytes words.now) }
+// Lays the first `n` words over the buffer behind the header. They are handed on by value, so that a refused command copies none.
+fn put_payload(out: &mut [u8], n: usize, words: [u32; 30])
+    requires { (n ≤ max_payload) × (4 + 4 * n ≤ length out.old) }
+    ensures { out.new ≡ stored out.old 4 (word_bytes (take n words)) }
 {
-    for (i, word) in words.iter().enumerate() {
+    for (i, word) in words[..n].iter().enumerate() {
         numbers::put_word(out, 4 + 4 * i, *word);
     }
 }
@@ -46,6 +46,6 @@ pub fn write_command(
     }
     let header = header_word(rd, code, count);
     numbers::put_word(out, 0, header);
-    put_payload(out, &words[..n]);
+    put_payload(out, n, words);
     Ok(size)
 }

@@ -1,5 +1,5 @@
 -- What is not refused is legal; behind that it is the room alone that decides.
-use Rattle.std.proofs.Common.{arith, length-take}
+use Rattle.std.proofs.Common.{arith}
 use Rattle.demorad.proofs.RuleLaws.{legal_at}
 use Rattle.demorad.proofs.WritingLaws.{write_short, write_done}
 use Rattle.demorad_write.proofs.write_command.Goals as goal
@@ -15,17 +15,10 @@ header_word-header-requires c =
     let legal = legal_at c.command_refusal.ensures.value c.in_ok-command_refusal.was in
     (legal.small, legal.few)
 
-pub slice_bounds-words-end : goal.slice_bounds-words-end
-slice_bounds-words-end c =
+pub put_payload-requires : goal.put_payload-requires
+put_payload-requires c =
     let legal = legal_at c.command_refusal.ensures.value c.in_ok-command_refusal.was in
-    let thirty = c.command_refusal.ensures.thirty in
-    omega arith
-
-pub slice_bounds-put_payload-end : goal.slice_bounds-put_payload-end
-slice_bounds-put_payload-end c =
-    let legal = legal_at c.command_refusal.ensures.value c.in_ok-command_refusal.was in
-    let thirty = c.command_refusal.ensures.thirty in
-    simp length-take (omega arith)
+    (legal.few, omega arith)
 
 pub returns : goal.returns
 returns c =
