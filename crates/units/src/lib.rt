@@ -1,6 +1,6 @@
 // The number rules (paper 01, "Numbers"; paper 02, (iv), (v)): all definitions and theorems, and what accuracies and coordinates mean;
-// `character_units` has what characters mean. Sign and magnitude stay apart up to `signed_quantity`; so all numbers before the last step
-// are whole and not negative, and no rounding but ours takes place.
+// `character_units` has what characters mean. Sign and magnitude stay apart up to `signed`; so all numbers before the last step are whole
+// and not negative, and no rounding but ours takes place.
 #![tactic(auto)]
 
 ghost use Rattle.std.specs.Prelude.{◌≡◌, ◌*◌, ◌^◌, ◌<◌, ◌≤◌, Ok};
@@ -130,7 +130,7 @@ fn outside(over: u32) -> Result<i32, Refusal>
     Err(Refusal::TooFar)
 }
 
-// The number of that refusal, or 0 where there is none: by two tests of which none is a branch.
+// The number of that refusal, or 0 where there is none: a choice of three numbers, which needs no branch.
 fn outside_number(over: u32) -> u32
     ensures { result ≡ refusal_number (outside over) }
 {
@@ -212,8 +212,9 @@ fn quantity_by(ties: Ties, bits: u32) -> Quantity
     }
 }
 
-// The same in numbers, as a host in C is answered. By a `Result` the processor guesses at each float outside whether it is refused, and on
-// any floats guesses wrong every other time.
+// What `coordinate_to_millimetres` answers, in numbers, as a host in C gets it: 3D800000 is 63 in edition 1, 447A0001 is refused with 31.
+// By a `Result` the processor guesses at each float outside whether it is refused, and on any floats guesses wrong every other time. Here
+// too each call of `quantity_by` names its rule.
 #[tactic(auto, unfolding(crate::specs::Units::ties_named, crate::specs::Units::millimetres))]
 pub fn coordinate_quantity(edition: u32, bits: u32) -> Quantity
     ensures { result ≡ millimetres edition bits }
